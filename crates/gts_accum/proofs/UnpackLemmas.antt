@@ -2,7 +2,7 @@
 use Rattle.std.proofs.Common.{◌≡◌, ℕ, ◌<◌, ◌≤◌, List, [], ◌++◌, length, Option, Some, None, inl, inr, refl, sym, subst, ◌∙◌, arith}
 use Rattle.std.proofs.lemmas.List.{append-nil}
 use Rattle.gts_accum.specs.declared.end.UnpackEnd.TheVariants.{Bad}
-use Rattle.gts_accum.specs.Cited.{Directory, Ended, EndsEarly, HasReplayCause, HasUnpackCause, IsEndAt, IsEndOf, IsFileEnd, IsLeft, IsPlaceMet, IsUnfailedFile, IsWhole, Journaled, ReplayEnd, Rose, Standing, StandsFor, Step, UnpackEnd, Unpacks, badplace, captured, readable, reading, steps_read}
+use Rattle.gts_accum.specs.Cited.{Directory, Ended, EndsEarly, HasFileCause, HasReplayCause, HasUnpackCause, IsEndAt, IsEndOf, IsFileEnd, IsLeft, IsPlaceMet, IsWhole, Journaled, ReplayEnd, Standing, StandsFor, Step, UnpackEnd, Unpacks, badplace, captured, readable, reading, steps_read}
 use Rattle.gts_replay.specs.Cited.{Ends, IsUnfailed}
 use Rattle.gts_event.specs.declared.event.Entry.{Entry}
 use Rattle.gts_connection.specs.Cited.{Reading}
@@ -148,18 +148,18 @@ cause-end r disk disk_now say say_now source source_now k = record {
 
 pub cause-cut : (r : ReplayEnd) (last : UnpackEnd) (disk disk_now say say_now source source_now later : ℕ)
     → HasReplayCause r disk disk_now say say_now source source_now → IsUnfailed r → IsFileEnd last
-    → (source_now ≤ later) × (last ≡ Ended end.SourceFault → Rose source_now later) → (IsUnfailedFile last → later ≡ source_now)
+    → HasFileCause last source_now later
     → HasUnpackCause last disk disk_now say say_now source later
-cause-cut r last disk disk_now say say_now source source_now later k cut is more still =
+cause-cut r last disk disk_now say say_now source source_now later k cut is more =
     let P : UnpackEnd → Type 0 = IsFileEnd in
     record {
       disk_later = k.disk_later;
       say_later = k.say_later;
-      source_later = omega (arith, k.source_later, more.0);
+      source_later = omega (arith, k.source_later, more.later);
       disk_failed = λ e. absurd (subst P e is);
       compaction_failed = λ e. absurd (subst P e is);
       reopen_failed = λ e. absurd (subst P e is);
       say_failed = λ e. absurd (subst P e is);
-      source_failed = λ e. omega (arith, more.1 e, k.source_later);
-      sound = λ u. let run = k.sound cut in (run.0, run.1, still u ∙ run.2);
+      source_failed = λ e. omega (arith, more.failed e, k.source_later);
+      sound = λ u. let run = k.sound cut in (run.0, run.1, more.sound u ∙ run.2);
     }

@@ -10,7 +10,7 @@ pub use Rattle.gts_accum.specs.Unpacking.{Gives, IsAtEnd, IsPast, Passes, Rest, 
 pub use Rattle.gts_accum.specs.Judging.{Judges}
 pub use Rattle.gts_accum.specs.UnpackedParts.{IsNext, IsSound, missing, unpacking_of}
 pub use Rattle.gts_accum.specs.Traced.{Covers, IsLeft}
-pub use Rattle.gts_accum.specs.Unpack.{HasUnpackCause, IsEndAt, IsEndOf, IsFileEnd, IsPlaceMet, IsUnfailedFile, Unpacks}
+pub use Rattle.gts_accum.specs.Unpack.{CountsUnpack, HasFileCause, HasUnpackCause, IsEndAt, IsEndOf, IsFileEnd, IsPlaceMet, IsUnfailedFile, Unpacks}
 pub use Rattle.gts_accum.specs.declared.end.UnpackEnd.{UnpackEnd}
 pub use Rattle.gts_accum.specs.declared.end.UnpackEnd.TheVariants.{Ended}
 pub use Rattle.gts_accum.specs.declared.format.Format.{Format}

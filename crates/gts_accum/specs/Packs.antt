@@ -1,6 +1,6 @@
 -- How packing a stream ended, and what of its file was said.
 use Rattle.std.specs.Prelude.{◌≡◌, ℕ, ◌≤◌, List, [], ◌++◌, length, Some, None, Result, Ok, Err, OnOk}
-use Rattle.gts_accum.specs.Cited.Below.{Call, Decoding, Rose, SaysFront, SaysOnly, held_in, on, seen, signs_in}
+use Rattle.gts_accum.specs.Cited.Below.{Call, Decoding, Rose, SaysFront, SaysOnly, StationMeanings, held_in, on, seen, signs_in}
 use Rattle.gts_accum.specs.Packing.{entries_text, messages_of, bad_in_stream, packed}
 use Rattle.gts_accum.specs.declared.pack_end.PackEnd.{PackEnd}
 use Rattle.gts_accum.specs.declared.pack_end.PackEnd.TheVariants as end
@@ -58,13 +58,16 @@ Packs observed end.NoMemory stream left old new = (left ≡ stream) × (observed
 abbrev pub SameFiles : List Call → List Call → Type 0
 SameFiles old new = (file : ℕ) → seen new file ≡ seen old file
 
--- saying is answered as failed only where its count rose, and with any other answer the count is as before
-pub record HasStopCause (result : Result (Unit {0}) Stop) (before now : ℕ) : Type 0 where
-  pub later : before ≤ now
-  pub failed : result ≡ Err Unsaid → Rose before now
-  pub sound : OnOk result (now ≡ before)
-  pub lost : (at : ℕ) → result ≡ Err (Lost at) → now ≡ before
+-- A piece was taken with this answer, and nothing but saying was asked: it is answered as failed only where its count rose, and with
+-- any other answer the count is as before.
+pub record SaysPiece {P : Type 0} (station : StationMeanings P) (result : Result (Unit {0}) Stop) (old new : P) : Type 0 where
+  pub later : station.say_faults old ≤ station.say_faults new
+  pub failed : result ≡ Err Unsaid → Rose (station.say_faults old) (station.say_faults new)
+  pub sound : OnOk result (station.say_faults new ≡ station.say_faults old)
+  pub lost : (at : ℕ) → result ≡ Err (Lost at) → station.say_faults new ≡ station.say_faults old
+  pub disk : station.disk_faults new ≡ station.disk_faults old
 
+-- saying is answered as failed only where its count rose, and with any other answer the count is as before
 pub record HasSayCause (result : PackEnd) (before now : ℕ) : Type 0 where
   pub later : before ≤ now
   pub failed : result ≡ end.SayFault → Rose before now

@@ -1,6 +1,6 @@
 -- What a run of a file through a switch left.
 use Rattle.std.specs.Prelude.{◌≡◌, ◌⊎◌, ℕ, ◌≤◌, List, [], length, Option, Some, None}
-use Rattle.gts_accum.specs.Cited.Below.{DiskFault, Journaled, ReplayEnd, Rose, SayFault, Standing, StandsFor}
+use Rattle.gts_accum.specs.Cited.Below.{DiskFault, Journaled, ReplayEnd, Rose, SayFault, SourceMeanings, Standing, StandsFor, SwitchMeanings}
 use Rattle.gts_replay.specs.Cited.{Ends, IsUnfailed}
 use Rattle.gts_event.specs.declared.event.Entry.{Entry}
 use Rattle.gts_accum.specs.Traced.{IsLeft}
@@ -50,6 +50,12 @@ abbrev pub IsUnfailedFile : UnpackEnd → Type 0
 IsUnfailedFile (Bad at) = Unit {0}
 IsUnfailedFile (Ended e) = IsUnfailed e
 
+-- the source's fault is answered only where its count rose, which never falls; a bad place, only where the count is as before
+pub record HasFileCause (result : UnpackEnd) (before now : ℕ) : Type 0 where
+  pub later : before ≤ now
+  pub failed : result ≡ Ended end.SourceFault → Rose before now
+  pub sound : IsUnfailedFile result → now ≡ before
+
 -- A fault of a device is answered only where its count rose, and no count falls; where no device ended the run, none rose.
 pub record HasUnpackCause (result : UnpackEnd) (disk disk_now say say_now source source_now : ℕ) : Type 0 where
   pub disk_later : disk ≤ disk_now
@@ -61,3 +67,9 @@ pub record HasUnpackCause (result : UnpackEnd) (disk disk_now say say_now source
   pub say_failed : result ≡ Ended (end.Fault SayFault) → Rose say say_now
   pub source_failed : result ≡ Ended end.SourceFault → Rose source source_now
   pub sound : IsUnfailedFile result → (disk_now ≡ disk) × (say_now ≡ say) × (source_now ≡ source)
+
+-- the same, by what the switch and the source stand for
+abbrev pub CountsUnpack : {W S : Type 0} → SwitchMeanings W → SourceMeanings S → UnpackEnd → (old new : W) → (before after : S) → Type 0
+CountsUnpack switch source result old new before after =
+    HasUnpackCause result (switch.disk_faults old) (switch.disk_faults new) (switch.say_faults old) (switch.say_faults new)
+    (source.faults before) (source.faults after)

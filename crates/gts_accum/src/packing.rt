@@ -1,14 +1,11 @@
-ghost use Rattle.std.specs.Prelude.{◌≡◌, ◌+◌, ◌≤◌, ◌++◌, ℕ, List, [], length, OnOk};
-ghost use Rattle.gts_accum.specs.Cited.{Call, HasCause, HasMessage, IsFramed, Tells, entries_text, entry_text, messages_of, on, signs_of_step, whole};
+ghost use Rattle.std.specs.Prelude.{◌≡◌, ◌+◌, ◌≤◌, ◌++◌, ℕ, List, [], length};
+ghost use Rattle.gts_accum.specs.Cited.{AsksOutput, Call, HasMessage, IsFramed, Tells, entries_text, entry_text, messages_of, on, signs_of_step, whole};
 ghost use Rattle.gts_accum.specs.Packs as packs;
 
 use crate::{ENTRY_HEAD, LONGEST_STREAM, PackEnd, entry_head};
 use gts_frame::{Decoder, Step};
-use gts_traits::{Failed, Source, Station, say};
+use gts_traits::{Channel, Failed, Source, Station, say};
 use std::alloc::Global;
-
-/// The channel on which a file is said.
-const FILE: u32 = 0;
 
 /// The most bytes of a stream that are read at once.
 const PIECE: usize = 4_096;
@@ -25,29 +22,25 @@ pub(crate) enum Stop {
 /// Says a message as a whole entry.
 fn say_entry<P: Station>(message: &[u8], station: &mut P) -> Result<(), Failed>
     requires { IsFramed message.now }
-    ensures told { P.observed → Tells result (on FILE (entry_text (whole message.now)))
+    ensures told { P.observed → Tells result (on 0 (entry_text (whole message.now)))
         (P.calls station.old) (P.calls station.new) }
-    ensures cause { HasCause result (P.say_faults station.old) (P.say_faults station.new) }
-    ensures sound { OnOk result (P.say_faults station.new ≡ P.say_faults station.old) }
-    ensures disk { P.disk_faults station.new ≡ P.disk_faults station.old }
+    ensures cause { AsksOutput P.Station result station.old station.new }
 {
     let mut head = [0; ENTRY_HEAD];
     entry_head(message.len() as u32, &mut head);
-    if let Err(Failed) = say(station, FILE, &head) {
+    if let Err(Failed) = say(station, Channel::OPERATOR, &head) {
         return Err(Failed);
     }
-    say(station, FILE, message)
+    say(station, Channel::OPERATOR, message)
 }
 
 /// Says what a step of the decoder adds to the file: the entry of a frame.
 fn say_step<P: Station>(step: Step, message: &[u8], station: &mut P) -> Result<(), Failed>
     requires { HasMessage step message.now }
     ensures told { P.observed
-        → Tells result (on FILE (entries_text (messages_of (signs_of_step step message.now))))
+        → Tells result (on 0 (entries_text (messages_of (signs_of_step step message.now))))
         (P.calls station.old) (P.calls station.new) }
-    ensures cause { HasCause result (P.say_faults station.old) (P.say_faults station.new) }
-    ensures sound { OnOk result (P.say_faults station.new ≡ P.say_faults station.old) }
-    ensures disk { P.disk_faults station.new ≡ P.disk_faults station.old }
+    ensures cause { AsksOutput P.Station result station.old station.new }
 {
     match step {
         Step::Frame(_) => say_entry(message, station),
@@ -65,9 +58,7 @@ fn take_piece<P: Station>(
     requires { start + length piece.now ≤ LONGEST_STREAM }
     ensures ends { packs.TakesPiece P.observed start piece.now result (P.calls station.old)
         (P.calls station.new) decoder.old decoder.new }
-    ensures cause { packs.HasStopCause result
-        (P.say_faults station.old) (P.say_faults station.new) }
-    ensures disk { P.disk_faults station.new ≡ P.disk_faults station.old }
+    ensures cause { packs.SaysPiece P.Station result station.old station.new }
 {
     let mut rest = piece;
     let mut at = start;
@@ -102,7 +93,7 @@ fn finish<P: Station>(at: u64, rest: u32, station: &mut P) -> PackEnd
     }
     let mut head = [0; ENTRY_HEAD];
     entry_head(0, &mut head);
-    match say(station, FILE, &head) {
+    match say(station, Channel::OPERATOR, &head) {
         Ok(()) => PackEnd::Done,
         Err(Failed) => PackEnd::SayFault,
     }

@@ -1,5 +1,5 @@
-ghost use Rattle.std.specs.Prelude.{◌≡◌, ◌<◌, ◌≤◌, length};
-ghost use Rattle.gts_accum.specs.Cited.{HasUnpackCause, IsFileEnd, IsPlaceMet, IsUnfailedFile, Rose, Unpacks, badplace};
+ghost use Rattle.std.specs.Prelude.{◌≡◌, ◌<◌, length};
+ghost use Rattle.gts_accum.specs.Cited.{CountsUnpack, HasFileCause, IsFileEnd, IsPlaceMet, Unpacks, badplace};
 
 use crate::traced::{OfFile, Traced};
 use crate::{UnpackEnd, a_file_is_a_capture};
@@ -15,11 +15,7 @@ use std::marker::Brand;
 fn end_of_file<S: Source, B: OfFile>(traced: &mut Traced<S, B>, at: u64) -> UnpackEnd
     ensures told { S.observed → IsPlaceMet (badplace B.file) result }
     ensures kind { IsFileEnd result }
-    ensures cause { (S.faults traced.old.source ≤ S.faults traced.new.source)
-        × (result ≡ UnpackEnd.Ended ReplayEnd.SourceFault
-        → Rose (S.faults traced.old.source) (S.faults traced.new.source)) }
-    ensures sound { IsUnfailedFile result
-        → S.faults traced.new.source ≡ S.faults traced.old.source }
+    ensures cause { HasFileCause result (S.faults traced.old.source) (S.faults traced.new.source) }
 {
     match traced.bad() {
         Ok(place) => UnpackEnd::Bad {
@@ -42,9 +38,7 @@ fn unpack_of<W: Switch, S: Source, B: OfFile>(
     ensures ends { Unpacks W.meanings W.observed S.observed result.0
         switch.old switch.new (S.left file) (S.left result.1) c }
     ensures directory { W.meanings.directory switch.new ≡ W.meanings.directory switch.old }
-    ensures cause { HasUnpackCause result.0 (W.disk_faults switch.old) (W.disk_faults switch.new)
-        (W.say_faults switch.old) (W.say_faults switch.new)
-        (S.faults file) (S.faults result.1) }
+    ensures cause { CountsUnpack W.Switch S.Source result.0 switch.old switch.new file result.1 }
 {
     // What the file stands for is a capture, or ends too early, and is read in one way.
     a_file_is_a_capture();
@@ -71,9 +65,7 @@ pub fn unpack<W: Switch, S: Source>(
     ensures ends { Unpacks W.meanings W.observed S.observed result.0
         switch.old switch.new (S.left file) (S.left result.1) c }
     ensures directory { W.meanings.directory switch.new ≡ W.meanings.directory switch.old }
-    ensures cause { HasUnpackCause result.0 (W.disk_faults switch.old) (W.disk_faults switch.new)
-        (W.say_faults switch.old) (W.say_faults switch.new)
-        (S.faults file) (S.faults result.1) }
+    ensures cause { CountsUnpack W.Switch S.Source result.0 switch.old switch.new file result.1 }
 {
     unpack_of::<W, S, Brand>(alloc, switch, file, c)
 }

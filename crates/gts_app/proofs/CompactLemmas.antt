@@ -1,47 +1,33 @@
 -- What `compact` comes to, from the opening and the engine's compaction.
 use Rattle.std.proofs.Common.{◌≡◌, ◌≤◌, ℕ, false, List, [], ◌∷◌, ◌++◌, Result, Ok, Err, IfErr, OnOk, Option, Some, None, IsTrue, inl, inr, refl, sym, ap, subst, ◌∙◌, arith}
 use Rattle.std.proofs.lemmas.List.{append-nil}
-use Rattle.gts_app.specs.Cited.{Call, Compacts, Device, Did, DiskFault, Done, EachSince, Engine, Full, Ghosts as StationMeanings, GivesRoom, Handed, HasCallCause, HasSaid, Holds, IsCompactEnd, IsCompactFault, IsCompacted, IsCompaction, IsIdleFault, IsOfFiles, IsRefusal, IsRewritten, IsTooLarge, Journaled, Keeps, Need, NoMemory, OpenFault, Opens, OpensAsBefore, OpensWith, Over, Rose, SourceMeanings, State, Status, StaysAt, StaysThere, SwitchFault, Syncs, begun, checkpoint_file, compacted_after, compacted_size, directory_of_bytes, full_compacted, handed, is_sound, need, opens, origin_of, refusal, said_by, seen, selected, shown, status_compacted, switch_meanings}
+use Rattle.gts_app.specs.Cited.{Call, Compacts, Damaged, Device, Did, Directory, DiskFault, Done, EachSince, Engine, Full, Ghosts as StationMeanings, GivesRoom, HasCallCause, HasSaid, Holds, InputFault, IsCompactEnd, IsCompactFault, IsCompacted, IsCompaction, IsIdleFault, IsRefusal, IsRewritten, IsTooLarge, Keeps, Need, NoJournal, NoMemory, OldVersion, OpenFault, Opens, OpensAsBefore, OpensWith, OtherDirectory, Over, Rose, SourceMeanings, State, Status, StaysAt, StaysThere, SwitchFault, Syncs, begun, checkpoint_file, compacted_after, compacted_size, directory_of_bytes, full_compacted, handed, is_sound, need, opens, origin_of, said_by, seen, selected, shown, status_compacted, switch_meanings}
 use Rattle.gts_directory.specs.Directory as directories
 use Rattle.gts_event.specs.declared.fault.SwitchFault.TheVariants as switch
-use Rattle.gts_record.specs.declared.fault.OpenFault.TheVariants as opening
 use Rattle.gts_engine.specs.declared.mode.SayMode.TheVariants as mode
-use Rattle.gts_app.proofs.RefusalLemmas.{refused, refusals, no_fault, same_directory, one_answer}
+use Rattle.gts_app.proofs.UnreadLemmas.{same_directory}
+use Rattle.gts_app.proofs.RefusalLemmas.{fault_answered, lacks_memory, memory_alone, none_answered}
 use Rattle.gts_app.proofs.EndLemmas.{none_gathered}
 use Rattle.gts_app.proofs.ShowLemmas.{goes_on}
-use Rattle.gts_app.proofs.ServeLemmas.{of_memory}
 use Rattle.gts_journal.proofs.LawLemmas.{syncs_silent as only_synced_says}
 
 -- ---- what refused it
 
 end_of_refusal : (status : Status) → IsRefusal status → IsCompactEnd status
-end_of_refusal status ends = elim (refusals status ends) [
-  | inl x ↦ subst IsCompactEnd (sym x.1) tt
-  | inr rest ↦ elim rest [
-    | inl x ↦ subst IsCompactEnd (sym x.2) (of_files x.0 x.1)
-    | inr more ↦ elim more [
-      | inl failed ↦ subst IsCompactEnd (sym failed) tt
-      | inr last ↦ elim last [
-        | inl failed ↦ subst IsCompactEnd (sym failed) tt
-        | inr none ↦ subst IsCompactEnd (sym none) tt
-      ]
-    ]
-  ]
-]
-  where
-    of_files : (fault : OpenFault) → IsOfFiles fault → IsCompactEnd (refusal fault)
-    of_files opening.NoJournal is = tt
-    of_files opening.OldVersion is = tt
-    of_files (opening.NotThis want found) is = tt
-    of_files (opening.Damaged file at) is = tt
-    of_files opening.DiskFault is = absurd is
-    of_files opening.NoMemory is = absurd is
+end_of_refusal (Directory fault) ends = tt
+end_of_refusal NoJournal ends = tt
+end_of_refusal OldVersion ends = tt
+end_of_refusal (OtherDirectory want found) ends = tt
+end_of_refusal (Damaged file at) ends = tt
+end_of_refusal DiskFault ends = tt
+end_of_refusal InputFault ends = tt
+end_of_refusal NoMemory ends = tt
+end_of_refusal _ ends = absurd ends
 
 pub not_compacted : {S P : Type 0} (source : SourceMeanings S) (w : StationMeanings P) (status : Status) (od nd : S) (old new : P)
-    (result : Result (Engine P) (Handed P)) → result ≡ Err (handed status new)
-    → Opens source w result od nd old → Compacts source w status od old nd new
-not_compacted source w status od nd old new result is h =
-    let r = h.refused status new is in
+    → Opens source w (Err (handed status new)) od nd old → Compacts source w status od old nd new
+not_compacted source w status od nd old new h =
+    let r = h.refused status new refl in
     let ends : IsRefusal status = r.ends in
     record {
       done = λ of. absurd (subst IsRefusal of ends);
@@ -50,32 +36,16 @@ not_compacted source w status od nd old new result is h =
       disk_fault = r.disk_fault;
       ends = end_of_refusal status ends;
       silent = λ observed told. only_synced_says (w.calls old) (w.calls new) (r.only_syncs told);
-      complete = λ observed told d n read opened room kept_directory kept_disk.
-          elim (refusals status ends) [
-            | inl x ↦ absurd (no_fault d x.0 (directory_of_bytes (source.left od)) read ((r.directory x.0 x.1).1 observed))
-            | inr rest ↦ elim rest [
-              | inl x ↦
-                  let j = r.journal x.0 x.2 x.1 observed told in
-                  let same = same_directory j.0 d (directory_of_bytes (source.left od)) j.1 read in
-                  absurd (one_answer n x.0 (opens d (seen (w.calls old))) opened (subst (λ (y : directories.Directory). opens y (seen (w.calls old)) ≡ Err x.0) same j.2))
-              | inr more ↦ elim more [
-                | inl failed ↦ absurd (kept_disk (r.disk_fault failed))
-                | inr last ↦ elim last [
-                  | inl failed ↦ absurd (kept_directory (r.source_fault failed).1)
-                  | inr none ↦ inr none
-                ]
-              ]
-            ]
-          ];
-      answered = (refused Journaled source source w status od nd od old new result is h).answered;
+      complete = λ observed told d n read opened kept_directory kept_disk room. inr (memory_alone source w status od nd old new r observed told d n read opened kept_directory kept_disk);
+      answered = fault_answered source w status od nd old new r;
       taken = h.taken;
       counts = (h.later, r.later, omega (arith, r.say));
     }
 
 -- ---- the engine was opened
 
-module _ {S P : Type 0} (source : SourceMeanings S) (w : StationMeanings P) (od nd : S) (old : P) (e : Engine P) (result : Result (Engine P) (Handed P))
-    (is : result ≡ Ok e) (h : Opens source w result od nd old)
+module _ {S P : Type 0} (source : SourceMeanings S) (w : StationMeanings P) (od nd : S) (old : P) (e : Engine P)
+    (h : Opens source w (Ok e) od nd old)
     (starts : (d : directories.Directory) (n : Need) → IsTrue (is_sound d n) → need d (begun n) ≡ n) where
   -- what is known of it where its station is observed
   record Known : Type 0 where
@@ -89,8 +59,8 @@ module _ {S P : Type 0} (source : SourceMeanings S) (w : StationMeanings P) (od 
 
   known : w.observed → Known
   known told =
-      let x = h.opened e is told in
-      record { told = told; n = x.0; read = x.1; opened = x.2.0.opened; synced = x.2.0.synced; keeps = none_gathered (switch_meanings w.observed w.calls) (record { told = told; origin = origin_of w.calls e x.0 }) e x.2.1.stands; same = starts e.directory x.0 x.2.0.sound }
+      let x = h.opened e refl told in
+      record { told = told; n = x.0; read = x.1; opened = x.2.0.opened; synced = x.2.0.synced; keeps = none_gathered (switch_meanings w) (record { told = told; origin = origin_of w.calls e x.0 }) e x.2.1.stands; same = starts e.directory x.0 x.2.0.sound }
 
   going : (k : Known) → e.stopped ≡ None
   going k = goes_on e.stopped k.keeps.failed
@@ -101,39 +71,22 @@ module _ {S P : Type 0} (source : SourceMeanings S) (w : StationMeanings P) (od 
   over : (new : P) (OfIt : directories.Directory → Need → Type 0) → ((k : Known) → OfIt e.directory k.n) → Over source w od old OfIt
   over new OfIt of observed told = let k = known told in (e.directory, k.n, k.read observed, k.opened, of k)
 
-  -- the files open to no fault
-  opens_here : source.observed → w.observed → (d : directories.Directory) (fault : OpenFault) → directory_of_bytes (source.left od) ≡ Ok d
-      → opens d (seen (w.calls old)) ≡ Err fault → ⊥
-  opens_here observed told d fault read opened =
-      let k = known told in
-      let same : d ≡ e.directory = same_directory d e.directory (directory_of_bytes (source.left od)) read (k.read observed) in
-      one_answer k.n fault (opens d (seen (w.calls old))) (subst (λ (y : directories.Directory). opens y (seen (w.calls old)) ≡ Ok k.n) (sym same) k.opened) opened
-
   -- nothing was changed for want of memory
   without_memory : Compacts source w NoMemory od old nd e.station
   without_memory = record {
     done = λ of. absurd (cc);
     full = λ used wanted limit of. absurd (cc);
-    refused = λ _. inl (record {
-      ends = tt;
-      directory = λ fault of. absurd (cc);
-      journal = λ fault of files observed told. absurd (of_memory fault files of);
-      disk_fault = λ of. absurd (cc);
-      source_fault = λ of. absurd (cc);
-      only_syncs = λ told. inl (known told).synced;
-      say = (h.kept e is).1;
-      later = omega (arith, (h.kept e is).0);
-    });
+    refused = λ _. inl (lacks_memory source w od nd old e h);
     disk_fault = λ of. absurd (cc);
     ends = tt;
     silent = λ observed told. ap said_by (known told).synced;
-    complete = λ observed told d n read opened room kept_directory kept_disk. inr refl;
+    complete = λ observed told d n read opened kept_directory kept_disk room. inr refl;
     answered = λ observed told d fault read opened kept_directory kept_disk. inr refl;
     taken = h.taken;
-    counts = (h.later, omega (arith, (h.kept e is).0), omega (arith, (h.kept e is).1));
+    counts = (h.later, omega (arith, (h.kept e refl).0), omega (arith, (h.kept e refl).1));
   }
 
-  module _ (r : Result (Unit {0}) SwitchFault) (new : Engine P) (compaction : IsCompaction w.observed w.calls r e new)
+  module _ (r : Result (Unit {0}) SwitchFault) (new : Engine P) (compaction : IsCompaction w r e new)
       (moments : w.observed → e.stopped ≡ None → StaysAt e.directory e.core (w.calls e.station) (w.calls new.station))
       (written : w.observed → OnOk r ((s : State) → Holds e.directory e.core s → IsRewritten e.directory s (w.calls e.station) (w.calls new.station) new.used))
       (room : (s : State) → e.stopped ≡ None → Holds e.directory e.core s → GivesRoom r e.directory s)
@@ -150,10 +103,10 @@ module _ {S P : Type 0} (source : SourceMeanings S) (w : StationMeanings P) (od 
     silent k said = said ∙ append-nil (said_by (w.calls e.station)) ∙ ap said_by k.synced
 
     disk_later : w.disk_faults old ≤ w.disk_faults new.station
-    disk_later = omega (arith, (h.kept e is).0, cause.disk_later)
+    disk_later = omega (arith, (h.kept e refl).0, cause.disk_later)
 
     say_later : w.say_faults old ≤ w.say_faults new.station
-    say_later = omega (arith, (h.kept e is).1, cause.say_later)
+    say_later = omega (arith, (h.kept e refl).1, cause.say_later)
 
     -- it goes on behind a checkpoint of all that it stood for
     after : (k : Known) → r ≡ Ok tt → Keeps w.observed mode.Station (compacted_after (origin_of w.calls e k.n) []) [] (shown w.calls new)
@@ -186,8 +139,8 @@ module _ {S P : Type 0} (source : SourceMeanings S) (w : StationMeanings P) (od 
       silent = λ observed told. let k = known told in
           let goes : new.stopped ≡ None = goes_on new.stopped (after k ok).failed in
           silent k (subst (λ (stopped : Option Device). HasSaid mode.Station (compacted_after (origin_of w.calls e k.n) []) [] stopped (w.calls new.station)) goes ((after k ok).leaves told).said);
-      complete = λ observed told d n read opened free kept_directory kept_disk. inl refl;
-      answered = λ observed told d fault read opened kept_directory kept_disk. absurd (opens_here observed told d fault read opened);
+      complete = λ observed told d n read opened kept_directory kept_disk free. inl refl;
+      answered = none_answered source w od nd old e h _ new.station;
       taken = h.taken;
       counts = (h.later, disk_later, say_later);
     }
@@ -196,7 +149,7 @@ module _ {S P : Type 0} (source : SourceMeanings S) (w : StationMeanings P) (od 
     by_disk failed =
         let rose : Rose (w.disk_faults old) (w.disk_faults new.station) =
         let here = subst (λ (x : Result (Unit {0}) SwitchFault). HasCallCause x (w.disk_faults e.station) (w.disk_faults new.station) (w.say_faults e.station) (w.say_faults new.station)) failed cause in
-        omega (arith, (h.kept e is).0, here.disk_failed refl) in
+        omega (arith, (h.kept e refl).0, here.disk_failed refl) in
         record {
           done = λ of. absurd (cc);
           full = λ used wanted limit of. absurd (cc);
@@ -205,8 +158,8 @@ module _ {S P : Type 0} (source : SourceMeanings S) (w : StationMeanings P) (od 
           ends = tt;
           silent = λ observed told. let k = known told in
               silent k ((compaction.failed failed mode.Station (origin_of w.calls e k.n) [] k.keeps).leaves told).said;
-          complete = λ observed told d n read opened free kept_directory kept_disk. absurd (kept_disk rose);
-          answered = λ observed told d fault read opened kept_directory kept_disk. absurd (opens_here observed told d fault read opened);
+          complete = λ observed told d n read opened kept_directory kept_disk free. absurd (kept_disk rose);
+          answered = none_answered source w od nd old e h _ new.station;
           taken = h.taken;
           counts = (h.later, disk_later, say_later);
         }
@@ -231,13 +184,13 @@ module _ {S P : Type 0} (source : SourceMeanings S) (w : StationMeanings P) (od 
           disk_fault = λ of. absurd (cc);
           ends = tt;
           silent = λ observed told. ap said_by (calls_are (known told));
-          complete = λ observed told d n read opened free kept_directory kept_disk.
+          complete = λ observed told d n read opened kept_directory kept_disk free.
               let k = known told in
               let same : d ≡ e.directory = same_directory d e.directory (directory_of_bytes (source.left od)) read (k.read observed) in
               let one : n ≡ k.n = one_need n k.n (opens d (seen (w.calls old))) opened (subst (λ (y : directories.Directory). opens y (seen (w.calls old)) ≡ Ok k.n) (sym same) k.opened) in
               let none : full_compacted e.directory (begun k.n) ≡ None = subst (λ (m : Need). full_compacted e.directory (begun m) ≡ None) one (subst (λ (y : directories.Directory). full_compacted y (begun n) ≡ None) same free) in
               absurd (found_none (full_compacted e.directory (begun k.n)) (switch.Full 42 (sum k).0 limit) none (sum k).1);
-          answered = λ observed told d fault read opened kept_directory kept_disk. absurd (opens_here observed told d fault read opened);
+          answered = none_answered source w od nd old e h _ new.station;
           taken = h.taken;
           counts = (h.later, disk_later, say_later);
         }

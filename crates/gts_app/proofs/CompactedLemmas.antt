@@ -1,6 +1,6 @@
 -- The origin of an engine's history, with the compactions that were done.
 use Rattle.std.proofs.Common.{◌≡◌, ℕ, ◌+◌, ◌≤◌, Bool, true, false, nat_le, cond, List, [], ◌∷◌, ◌++◌, length, take, refl, sym, ap, subst, ◌∙◌, arith, append_assoc}
-use Rattle.gts_app.specs.Cited.{AllByRecursion, Call, Entry, ObservedOrigin, Origin, Step, begun, compacted_at, compactions, done_by, history, no_bytes, origin_behind, switch_meanings}
+use Rattle.gts_app.specs.Cited.{AllByRecursion, Entry, Ghosts as StationMeanings, ObservedOrigin, Origin, Step, begun, compacted_at, compactions, done_by, history, no_bytes, origin_behind, switch_meanings}
 use Rattle.std.proofs.lemmas.Bool.{leb-true}
 use Rattle.std.proofs.lemmas.List.{append-nil, length-take-le}
 use Rattle.gts_connection.proofs.LawLemmas.{compactions_between}
@@ -20,16 +20,16 @@ done_within n (k ∷ ks) = go (done_within n ks) (nat_le k n) refl
 abbrev pub with_more : {observed : Type 0} → ObservedOrigin observed → List ℕ → ObservedOrigin observed
 with_more t ks = record t { origin = record t.origin { compactions = t.origin.compactions ++ ks } }
 
-module _ {P : Type 0} (observed : Type 0) (calls : P → List Call) where
-  pub compacted_is : (t : ObservedOrigin observed) (h : List Entry) (ks : List ℕ) → AllWithin (length h) ks → compacted_at (switch_meanings observed calls) t h ks ≡ with_more t ks
+module _ {P : Type 0} (station : StationMeanings P) where
+  pub compacted_is : (t : ObservedOrigin station.observed) (h : List Entry) (ks : List ℕ) → AllWithin (length h) ks → compacted_at (switch_meanings station) t h ks ≡ with_more t ks
   compacted_is t h [] each = ap (λ (cs : List ℕ). record t { origin = record t.origin { compactions = cs } }) (sym (append-nil t.origin.compactions))
   compacted_is t h (k ∷ ks) each =
-      compacted_is ((switch_meanings observed calls).compacts t (take k h)) h ks each.1
+      compacted_is ((switch_meanings station).compacts t (take k h)) h ks each.1
       ∙ ap (λ (cs : List ℕ). record t { origin = record t.origin { compactions = cs } })
       (ap (λ (n : ℕ). (t.origin.compactions ++ n ∷ []) ++ ks) (length-take-le k h each.0) ∙ append_assoc t.origin.compactions (k ∷ []) ks)
 
   -- behind entries, those compactions count that were done by then
-  pub behind_is : (t : ObservedOrigin observed) (h : List Entry) (ks : List ℕ) → origin_behind (switch_meanings observed calls) t ks h ≡ with_more t (done_by (length h) ks)
+  pub behind_is : (t : ObservedOrigin station.observed) (h : List Entry) (ks : List ℕ) → origin_behind (switch_meanings station) t ks h ≡ with_more t (done_by (length h) ks)
   behind_is t h ks = compacted_is t h (done_by (length h) ks) (done_within (length h) ks)
 
 -- how many entries there were at each compaction of a capture's steps

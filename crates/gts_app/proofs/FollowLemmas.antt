@@ -1,41 +1,28 @@
 -- What `follow` comes to, from the directory and what was made of the feed.
 use Rattle.std.proofs.Common.{◌≡◌, ◌⊎◌, ◌≤◌, ℕ, ◌-◌, List, [], Result, Ok, Err, inl, inr, refl, sym, ap, subst, ◌∙◌, arith}
-use Rattle.gts_app.specs.Cited.{Answers, ComesTo, EachImageReads, EachOpens, EndsAs, Files, FollowEnd, FollowedAs, FollowsFeed, Ghosts as StationMeanings, IsEnd, IsNamedEnd, IsOfFiles, LeavesAlone, LeavesUnopened, Need, NoMemory, OnlySyncs, OpenFault, Read, ReadsDirectory, RefusedBy, Rose, SourceMeanings, State, Status, TakenAs, TakesFeed, comes_to, directory_of_bytes, files_read, need, opened_of, opens, own_seals, read_after, restarted, said_by, seen, selected_bytes, state_after, status_followed, taken, world, written}
+use Rattle.gts_app.specs.Cited.{Answers, ComesTo, Directory, EachImageReads, EachOpens, EndsAs, Files, FollowEnd, FollowedAs, FollowsFeed, Ghosts as StationMeanings, IsEnd, IsNamedEnd, IsOfFiles, IsReadEnd, LeavesAlone, LeavesUnopened, Need, NoMemory, OnlySyncs, OpenFault, Read, ReadsDirectory, RefusedBy, Rose, SourceMeanings, State, Status, TakenAs, TakesFeed, comes_to, directory_of_bytes, files_read, need, opened_of, opens, own_seals, read_after, restarted, said_by, seen, selected_bytes, state_after, status_followed, taken, world, written}
 use Rattle.gts_standby.specs.Taking.{Taken}
 use Rattle.gts_directory.specs.Directory as directories
 use Rattle.gts_record.specs.declared.fault.OpenFault.TheVariants as opening
 use Rattle.gts_standby.specs.declared.end.FollowEnd.TheVariants as follow
-use Rattle.gts_app.proofs.RefusalLemmas.{same_directory, no_fault}
-use Rattle.gts_app.proofs.StreamLemmas.{Ended, ended}
+use Rattle.gts_app.proofs.UnreadLemmas.{by_end, new_ended, no_fault, only_memory, same_directory}
 
 -- ---- there is no directory
 
 pub unfollowed : {S P : Type 0} (source : SourceMeanings S) (station : StationMeanings P) (status : Status) (od nd oc : S) (at : P)
     → ReadsDirectory source (Err status) od nd → FollowsFeed source station status (world od oc at) (world nd oc at)
 unfollowed source station status od nd oc at h = record {
-  means = go (ended status (h.ends status refl));
+  means = by_end (λ fault. Directory fault) IsReadEnd new_ended source status od nd h (λ s. FollowedAs source station s (world od oc at) (world nd oc at))
+      (λ fault is. ((refl, refl), is)) (λ rose. inl ((refl, refl), rose)) tt;
   moments = λ observed told d read taken comes. inl (inr (inl refl));
   turned_away = λ observed fault is. (refl, refl);
   unopened = λ observed told d fault found is. (inr (inl refl), refl);
-  complete = λ observed told d read taken comes calm_directory calm_feed calm_disk. ends_so d comes.0 observed calm_directory (ended status (h.ends status refl));
+  complete = λ observed told d read taken comes calm_directory calm_feed calm_disk. inr (only_memory (λ fault. Directory fault) IsReadEnd new_ended source status od nd h observed d comes.0 calm_directory);
   silent = λ told. refl;
   directory_taken = h.taken;
   source_counts = (h.cause.later, omega arith);
   station_counts = (refl, omega arith);
 }
-  where
-    go : Ended status → FollowedAs source station status (world od oc at) (world nd oc at)
-    go (inl e) = subst (λ (s : Status). FollowedAs source station s (world od oc at) (world nd oc at)) (sym e.1)
-        ((refl, refl), λ observed. h.fault observed e.0 (ap (λ (s : Status). Err s) e.1))
-    go (inr (inl e)) = subst (λ (s : Status). FollowedAs source station s (world od oc at) (world nd oc at)) (sym e)
-        (inl ((refl, refl), h.cause.failed (ap (λ (s : Status). Err s) e)))
-    go (inr (inr e)) = subst (λ (s : Status). FollowedAs source station s (world od oc at) (world nd oc at)) (sym e) tt
-
-    ends_so : {X : Type 0} (d : directories.Directory) → directory_of_bytes (source.left od) ≡ Ok d → source.observed → (Rose (source.faults od) (source.faults nd) → ⊥)
-        → Ended status → X ⊎ (status ≡ NoMemory)
-    ends_so d read observed calm (inl e) = absurd (no_fault d e.0 (directory_of_bytes (source.left od)) read (h.fault observed e.0 (ap (λ (s : Status). Err s) e.1)))
-    ends_so d read observed calm (inr (inl e)) = absurd (calm (h.cause.failed (ap (λ (s : Status). Err s) e)))
-    ends_so d read observed calm (inr (inr e)) = inr e
 
 -- ---- there is one
 
@@ -44,10 +31,7 @@ ends_of : (answer : FollowEnd) → IsEnd answer → (t : Taken) → Answers answ
 ends_of follow.Done is t answers = answers
 ends_of (follow.Feed at) is t answers = answers
 ends_of (follow.Diverged index own fed) is t answers = answers
-ends_of (follow.Open fault) is t answers = absurd is
-ends_of follow.SourceFault is t answers = absurd is
-ends_of follow.DiskFault is t answers = absurd is
-ends_of follow.NoMemory is t answers = absurd is
+ends_of _ is t answers = absurd is
 
 -- and comes only where the files open
 none_of : (answer : FollowEnd) → IsEnd answer → (fault : OpenFault) → Answers answer (Err fault) → ⊥

@@ -44,7 +44,7 @@ first_done k (x ∷ xs) is =
 module _ {P I : Type 0} (w : StationMeanings P) (b : Beginning) (incoming : SourceMeanings I) (sink_tells : Type 0) (connections : ℕ) (before now : LinesSeen)
     (engine : Engine P) where
   abbrev Came : Option (Known (List Entry)) → ServeEnd → Type 0
-  Came pass end = IsServed w.observed w.calls w.disk_faults w.say_faults b incoming sink_tells connections before now pass end engine
+  Came pass end = IsServed w b incoming sink_tells connections before now pass end engine
 
   -- the counts of the station are those of the beginning
   abbrev pub IsStill : Type 0

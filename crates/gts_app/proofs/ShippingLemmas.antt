@@ -1,12 +1,11 @@
 -- What `ship` comes to, from the directory and the feed.
-use Rattle.std.proofs.Common.{◌≡◌, ◌≤◌, ℕ, List, [], Option, Result, Ok, Err, inl, inr, refl, sym, ap, subst, arith, IfErr, OnOk, IsErrOf}
-use Rattle.gts_app.specs.Cited.{Call, Ghosts as StationMeanings, IsNamed, IsShipFault, NoMemory, OnlySyncsUnopened, ReadsDirectory, Rose, SaysFrontSynced, ShipFault, ShippedAs, ShipsFeed, ShipsOnly, Since, SourceMeanings, Status, asked_of, directory_of_bytes, opens, seen, status_shipped}
+use Rattle.std.proofs.Common.{◌≡◌, ◌≤◌, ℕ, List, [], Option, Result, Ok, Err, inl, inr, refl, subst, arith, IfErr, OnOk, IsErrOf}
+use Rattle.gts_app.specs.Cited.{Call, Directory, Ghosts as StationMeanings, IsNamed, IsReadEnd, IsShipFault, NoMemory, OnlySyncsUnopened, ReadsDirectory, Rose, SaysFrontSynced, ShipFault, ShippedAs, ShipsFeed, ShipsOnly, Since, SourceMeanings, Status, asked_of, directory_of_bytes, opens, seen, status_shipped}
 use Rattle.gts_directory.specs.Directory as directories
 use Rattle.gts_record.specs.declared.fault.OpenFault.TheVariants as opening
 use Rattle.gts_standby.specs.declared.fault.ShipFault.TheVariants as ship
-use Rattle.gts_app.proofs.RefusalLemmas.{same_directory}
+use Rattle.gts_app.proofs.UnreadLemmas.{by_end, new_ended, same_directory}
 use Rattle.gts_app.proofs.ShowLemmas.{unchanged}
-use Rattle.gts_app.proofs.StreamLemmas.{Ended, ended}
 
 -- nothing was begun
 pub unread : {S P : Type 0} (since : Option Since) (source : SourceMeanings S) (station : StationMeanings P) (od : S) (at : P) → ShipsFeed since source station NoMemory od at od at
@@ -22,17 +21,13 @@ unread since source station od at = record {
 pub ship_unread : {S P : Type 0} (since : Option Since) (source : SourceMeanings S) (station : StationMeanings P) (status : Status) (od nd : S) (at : P)
     → ReadsDirectory source (Err status) od nd → ShipsFeed since source station status od at nd at
 ship_unread since source station status od nd at h = record {
-  means = go (ended status (h.ends status refl));
+  means = by_end (λ fault. Directory fault) IsReadEnd new_ended source status od nd h (λ s. ShippedAs since source station s od at nd at)
+      (λ fault is. (refl, is)) (λ rose. (refl, rose)) (inl refl);
   files = λ observed k. refl;
   unopened = λ observed told d fault read is. inr (inl refl);
   taken = h.taken;
   counts = (h.cause.later, omega arith, omega arith);
 }
-  where
-    go : Ended status → ShippedAs since source station status od at nd at
-    go (inl e) = subst (λ (s : Status). ShippedAs since source station s od at nd at) (sym e.1) (refl, λ observed. h.fault observed e.0 (ap (λ (s : Status). Err s) e.1))
-    go (inr (inl e)) = subst (λ (s : Status). ShippedAs since source station s od at nd at) (sym e) (refl, h.cause.failed (ap (λ (s : Status). Err s) e))
-    go (inr (inr e)) = subst (λ (s : Status). ShippedAs since source station s od at nd at) (sym e) (inl refl)
 
 -- what reads of the files give stays where a front was said at most
 stays_synced : (old new : List Call) (bytes : List ℕ) (k : ℕ) → SaysFrontSynced old new bytes → seen new k ≡ seen old k

@@ -1,6 +1,6 @@
 -- A command that was done had nothing fail under it: from its status to how the call below it ended.
-use Rattle.std.proofs.Common.{◌≡◌, ℕ, inl, inr, Result, Ok, Err, IsErrOf, OnOk, refl, sym, ap, subst, ◌∙◌}
-use Rattle.gts_app.specs.Cited.{CountsSays, Done, EndsWithoutTable, Failed, FollowEnd, GapsEnd, Ghosts as StationMeanings, Handed, IsOldReadEnd, IsReadEnd, IsRefusal, MigrateFault, OpenFault, Opens, PackEnd, ReadsDirectory, ReadsOldDirectory, ReplayEnd, ShipFault, SourceMeanings, Status, SwitchFault, handed, refusal, status_compacted, status_followed, status_migrated, status_named, status_of, status_packed, status_said, status_shipped}
+use Rattle.std.proofs.Common.{◌≡◌, ℕ, inl, inr, Result, Ok, Err, IsErrOf, OnOk, refl, sym, subst, ◌∙◌}
+use Rattle.gts_app.specs.Cited.{CountsSays, Done, EndsWithoutTable, Failed, FollowEnd, GapsEnd, Ghosts as StationMeanings, Handed, IsOldReadEnd, IsReadEnd, IsRefusal, MigrateFault, OpenFault, Opens, PackEnd, ReadsDirectory, ReadsOldDirectory, ReplayEnd, ShipFault, SourceMeanings, Status, SwitchFault, refusal, status_compacted, status_followed, status_migrated, status_named, status_packed, status_said, status_shipped}
 use Rattle.gts_accum.specs.declared.pack_end.PackEnd.TheVariants as packs
 use Rattle.gts_event.specs.declared.fault.SwitchFault.TheVariants as switch
 use Rattle.gts_gap.specs.declared.fault.GapsEnd.TheVariants as gaps
@@ -12,15 +12,14 @@ use Rattle.gts_app.proofs.ReplayLemmas.{was_done}
 
 -- ---- a command that was refused was not done
 
-pub unread : {S : Type 0} (source : SourceMeanings S) (status : Status) (old new : S) → ReadsDirectory source (Err status) old new → status ≡ Done → ⊥
-unread source status old new h is = subst IsReadEnd is (h.ends status refl)
+pub unread : {S : Type 0} {source : SourceMeanings S} {status : Status} {old new : S} → ReadsDirectory source (Err status) old new → status ≡ Done → ⊥
+unread {status = status} h is = subst IsReadEnd is (h.ends status refl)
 
-pub old_unread : {S : Type 0} (source : SourceMeanings S) (status : Status) (old new : S) → ReadsOldDirectory source (Err status) old new → status ≡ Done → ⊥
-old_unread source status old new h is = subst IsOldReadEnd is (h.ends status refl)
+pub old_unread : {S : Type 0} {source : SourceMeanings S} {status : Status} {old new : S} → ReadsOldDirectory source (Err status) old new → status ≡ Done → ⊥
+old_unread {status = status} h is = subst IsOldReadEnd is (h.ends status refl)
 
-pub unopened : {S P : Type 0} (source : SourceMeanings S) (w : StationMeanings P) (status : Status) (od nd : S) (old new : P)
-    → Opens source w (Err (handed status new)) od nd old → status ≡ Done → ⊥
-unopened source w status od nd old new h is = subst IsRefusal is (h.refused status new refl).ends
+pub unopened : {S P : Type 0} {source : SourceMeanings S} {w : StationMeanings P} {r : Handed P} {od nd : S} {old : P} → Opens source w (Err r) od nd old → r.status ≡ Done → ⊥
+unopened {r = r} h is = subst IsRefusal is (h.refused r.status r.station refl).ends
 
 -- no fault of an opening is
 pub refusal_fails : (fault : OpenFault) → refusal fault ≡ Done → ⊥
@@ -35,51 +34,32 @@ refusal_fails opening.NoMemory is = cc is
 
 pub packed : (e : PackEnd) → status_packed e ≡ Done → e ≡ packs.Done
 packed packs.Done is = refl
-packed (packs.Bad at) is = absurd (cc is)
-packed packs.SourceFault is = absurd (cc is)
-packed packs.SayFault is = absurd (cc is)
-packed packs.NoMemory is = absurd (cc is)
+packed _ is = absurd (cc is)
 
 pub named : (e : GapsEnd) → status_named e ≡ Done → e ≡ gaps.Done
 named gaps.Done is = refl
-named (gaps.Capture at) is = absurd (cc is)
-named gaps.SourceFault is = absurd (cc is)
-named gaps.SayFault is = absurd (cc is)
-named gaps.NoMemory is = absurd (cc is)
+named _ is = absurd (cc is)
 
 pub followed : (e : FollowEnd) → status_followed e ≡ Done → e ≡ follows.Done
 followed follows.Done is = refl
 followed (follows.Open fault) is = absurd (refusal_fails fault is)
-followed (follows.Feed at) is = absurd (cc is)
-followed (follows.Diverged index own fed) is = absurd (cc is)
-followed follows.SourceFault is = absurd (cc is)
-followed follows.DiskFault is = absurd (cc is)
-followed follows.NoMemory is = absurd (cc is)
+followed _ is = absurd (cc is)
 
 pub shipped : (r : Result (Unit {0}) ShipFault) → status_shipped r ≡ Done → r ≡ Ok tt
 shipped (Ok done) is = refl
 shipped (Err (ships.Open fault)) is = absurd (refusal_fails fault is)
-shipped (Err ships.DiskFault) is = absurd (cc is)
-shipped (Err ships.SayFault) is = absurd (cc is)
-shipped (Err ships.NoMemory) is = absurd (cc is)
+shipped _ is = absurd (cc is)
 
 pub migrated : (r : Result (Unit {0}) MigrateFault) → status_migrated r ≡ Done → r ≡ Ok tt
 migrated (Ok done) is = refl
 migrated (Err (migrates.Open fault)) is = absurd (refusal_fails fault is)
-migrated (Err (migrates.Waits circuit count)) is = absurd (cc is)
-migrated (Err (migrates.Full used need limit)) is = absurd (cc is)
-migrated (Err migrates.DiskFault) is = absurd (cc is)
-migrated (Err migrates.SayFault) is = absurd (cc is)
-migrated (Err migrates.NoMemory) is = absurd (cc is)
+migrated _ is = absurd (cc is)
 
 pub compacted : (r : Result (Unit {0}) SwitchFault) → status_compacted r ≡ Done → r ≡ Ok tt
 compacted (Ok done) is = refl
 compacted (Err switch.DiskFault) is = absurd (cc is)
 compacted (Err (switch.Full used need limit)) is = absurd (cc is)
-compacted (Err switch.SayFault) is = absurd (cc is)
-compacted (Err (switch.Stopped by)) is = absurd (cc is)
-compacted (Err switch.Spent) is = absurd (cc is)
-compacted (Err switch.NoMemory) is = absurd (cc is)
+compacted (Err _) is = absurd (cc is)
 
 pub said : (r : Result (Unit {0}) Failed) → status_said r ≡ Done → r ≡ Ok tt
 said (Ok done) is = refl

@@ -1,40 +1,12 @@
 -- What the commands come to that read a stream or a capture and use no journal.
-use Rattle.std.proofs.Common.{◌≡◌, ℕ, Ok, Err, inl, inr, refl, sym, ap, subst, arith, ◌⊎◌}
-use Rattle.gts_app.specs.Cited.{Capture, Changed, Closed, Damaged, DirFault, Directory, DiskFault, Done, Exists, Feed, File, Full, GapsEnd, Ghosts as StationMeanings, HasGapsCause, HasReadCause, HasSayCause, InputFault, IsReadEnd, KeepsFiles, LineFault, LongSession, Moment, NamedAs, Names, NamesGaps, NoJournal, NoMemory, OldDirectory, OldVersion, OtherDirectory, OtherFeed, OutputFault, PackEnd, PackedAs, Packs, PacksStream, ReadsDirectory, SameFiles, SourceMeanings, Status, TicketsSpent, Usage, directory_of_bytes, seen, status_named, status_packed, world}
+use Rattle.std.proofs.Common.{◌≡◌, ℕ, Ok, Err, inl, inr, refl, ap, arith}
+use Rattle.gts_app.specs.Cited.{Directory, GapsEnd, Ghosts as StationMeanings, HasGapsCause, HasReadCause, HasSayCause, IsReadEnd, KeepsFiles, Moment, NamedAs, Names, NamesGaps, PackEnd, PackedAs, Packs, PacksStream, ReadsDirectory, SameFiles, SourceMeanings, Status, directory_of_bytes, seen, status_named, status_packed, world}
 use Rattle.gts_directory.specs.Directory as directories
+use Rattle.gts_app.proofs.UnreadLemmas.{by_end, new_ended}
 use Rattle.gts_accum.specs.declared.pack_end.PackEnd.TheVariants as packs
 use Rattle.gts_gap.specs.declared.fault.GapsEnd.TheVariants as gaps
 
 -- ---- where there is no directory
-
--- the ends that reading a directory has
-abbrev pub Ended : Status → Type 0
-Ended status = ((fault : DirFault) × (status ≡ Directory fault)) ⊎ ((status ≡ InputFault) ⊎ (status ≡ NoMemory))
-
-pub ended : (status : Status) → IsReadEnd status → Ended status
-ended (Directory fault) e = inl (fault, refl)
-ended InputFault e = inr (inl refl)
-ended NoMemory e = inr (inr refl)
-ended Done e = absurd e
-ended Usage e = absurd e
-ended (OldDirectory _) e = absurd e
-ended (Changed _ _) e = absurd e
-ended (Closed _ _) e = absurd e
-ended (Capture _) e = absurd e
-ended NoJournal e = absurd e
-ended OldVersion e = absurd e
-ended (OtherDirectory _ _) e = absurd e
-ended (Damaged _ _) e = absurd e
-ended (Exists _) e = absurd e
-ended (File _) e = absurd e
-ended (Feed _) e = absurd e
-ended (OtherFeed _ _ _) e = absurd e
-ended DiskFault e = absurd e
-ended OutputFault e = absurd e
-ended (Full _ _ _) e = absurd e
-ended (LineFault _) e = absurd e
-ended (LongSession _) e = absurd e
-ended (TicketsSpent _) e = absurd e
 
 unread_keeps : {S P : Type 0} (source : SourceMeanings S) (station : StationMeanings P) (status : Status) (od nd oc : S) (at : P)
     → ReadsDirectory source (Err status) od nd → KeepsFiles source station (world od oc at) (world nd oc at)
@@ -48,34 +20,18 @@ unread_keeps source station status od nd oc at h = record {
 pub pack_unread : {S P : Type 0} (source : SourceMeanings S) (station : StationMeanings P) (status : Status) (od nd oc : S) (at : P)
     → ReadsDirectory source (Err status) od nd → PacksStream source station status (world od oc at) (world nd oc at)
 pack_unread source station status od nd oc at h = record {
-  means = go (ended status (h.ends status refl));
+  means = by_end (λ fault. Directory fault) IsReadEnd new_ended source status od nd h (λ s. PackedAs source station s (world od oc at) (world nd oc at))
+      (λ fault is. ((refl, refl), is)) (λ rose. inl ((refl, refl), rose)) (refl, refl);
   keeps = unread_keeps source station status od nd oc at h;
 }
-  where
-    go : Ended status → PackedAs source station status (world od oc at) (world nd oc at)
-    go (inl e) =
-        subst (λ (s : Status). PackedAs source station s (world od oc at) (world nd oc at)) (sym e.1)
-        ((refl, refl), λ observed. h.fault observed e.0 (ap (λ (s : Status). Err s) e.1))
-    go (inr (inl e)) =
-        subst (λ (s : Status). PackedAs source station s (world od oc at) (world nd oc at)) (sym e)
-        (inl ((refl, refl), h.cause.failed (ap (λ (s : Status). Err s) e)))
-    go (inr (inr e)) = subst (λ (s : Status). PackedAs source station s (world od oc at) (world nd oc at)) (sym e) (refl, refl)
 
 pub gaps_unread : {S P : Type 0} (source : SourceMeanings S) (station : StationMeanings P) (moment : Moment) (status : Status) (od nd oc : S) (at : P)
     → ReadsDirectory source (Err status) od nd → NamesGaps source station moment status (world od oc at) (world nd oc at)
 gaps_unread source station moment status od nd oc at h = record {
-  means = go (ended status (h.ends status refl));
+  means = by_end (λ fault. Directory fault) IsReadEnd new_ended source status od nd h (λ s. NamedAs source station moment s (world od oc at) (world nd oc at))
+      (λ fault is. ((refl, refl), is)) (λ rose. (refl, inl rose)) refl;
   keeps = unread_keeps source station status od nd oc at h;
 }
-  where
-    go : Ended status → NamedAs source station moment status (world od oc at) (world nd oc at)
-    go (inl e) =
-        subst (λ (s : Status). NamedAs source station moment s (world od oc at) (world nd oc at)) (sym e.1)
-        ((refl, refl), λ observed. h.fault observed e.0 (ap (λ (s : Status). Err s) e.1))
-    go (inr (inl e)) =
-        subst (λ (s : Status). NamedAs source station moment s (world od oc at) (world nd oc at)) (sym e)
-        (refl, inl (h.cause.failed (ap (λ (s : Status). Err s) e)))
-    go (inr (inr e)) = subst (λ (s : Status). NamedAs source station moment s (world od oc at) (world nd oc at)) (sym e) refl
 
 -- ---- where there is one
 

@@ -1,6 +1,6 @@
 -- What each end of a file's run means for the command.
-use Rattle.std.proofs.Common.{◌≡◌, ◌⊎◌, ℕ, ◌<◌, ◌≤◌, false, List, [], length, Result, Ok, Err, None, IsTrue, inl, inr, refl, sym, ap, subst, arith}
-use Rattle.gts_app.specs.Cited.{Bad, Capture, Changed, Closed, Damaged, Directory, DiskFault, Done, Ended, Engine, Entry, Exists, Feed, File, Full, Ghosts as StationMeanings, Handed, HasNoCircuit, HasReplayCause, HasUnpackCause, InputFault, IsEndAt, IsEndOf, IsLeft, IsReadEnd, IsRefusal, IsStatusOf, IsUnfailed, IsUnfailedFile, Journaled, KeepsLaws, LineFault, LongSession, Need, NoJournal, NoMemory, OldDirectory, OldVersion, Opens, OtherDirectory, OtherFeed, OutputFault, ReadsDirectory, ReplayEnd, Rose, SourceMeanings, Status, TicketsSpent, UnpackEnd, Unpacks, Usage, badplace, capture_meanings, captured, directory_of_bytes, handed, is_sound, keeps_one, origin_of, status_of, status_unpacked, switch_meanings, unpacked, world}
+use Rattle.std.proofs.Common.{◌≡◌, ℕ, ◌<◌, ◌≤◌, List, [], length, Ok, Err, IsTrue, inl, inr, refl, sym, ap, subst, arith}
+use Rattle.gts_app.specs.Cited.{Bad, Damaged, Directory, DiskFault, Done, Ended, EndsIn, Engine, Entry, Feed, File, Ghosts as StationMeanings, HasNoCircuit, HasReplayCause, HasUnpackCause, InputFault, IsEndAt, IsEndOf, IsLeft, IsReadEnd, IsRefusal, IsStatusOf, IsUnfailed, IsUnfailedFile, Journaled, KeepsLaws, Need, NoJournal, NoMemory, OldVersion, Opens, OtherDirectory, OtherFeed, ReadsDirectory, ReplayEnd, SourceMeanings, Status, Stays, UnpackEnd, Unpacks, Usage, badplace, capture_meanings, captured, directory_of_bytes, handed, is_sound, keeps_one, origin_of, status_of, status_unpacked, switch_meanings, unpacked, world}
 use Rattle.gts_accum.specs.Unpack.{Unpacks as Runs}
 use Rattle.gts_directory.specs.Directory as directories
 use Rattle.gts_event.specs.declared.fault.SwitchFault.TheVariants as switch
@@ -8,7 +8,8 @@ use Rattle.gts_record.specs.declared.fault.OpenFault.TheVariants as opening
 use Rattle.gts_replay.specs.declared.end.ReplayEnd.TheVariants as end
 use Rattle.gts_app.proofs.EndLemmas.{Leaves}
 use Rattle.gts_app.proofs.OpeningLemmas.{no_directory}
-use Rattle.gts_app.proofs.RefusalLemmas.{refused, out_of_memory, same_directory, no_fault}
+use Rattle.gts_app.proofs.RefusalLemmas.{refused, out_of_memory}
+use Rattle.gts_app.proofs.UnreadLemmas.{new_ended, only_memory, same_directory}
 use Rattle.gts_app.proofs.ReplayLemmas.{replays}
 
 -- ---- a status by that of the capture's replay
@@ -100,11 +101,7 @@ untouched file c = record { taken = []; given = []; due = captured [] c; read = 
 unfailed-file : (r : ReplayEnd) (result : UnpackEnd) → IsEndOf r result → IsUnfailed r → IsUnfailedFile result
 unfailed-file end.Done result is ends = subst IsUnfailedFile (sym is) tt
 unfailed-file (end.Capture at) result is ends = subst IsUnfailedFile (sym is.1) tt
-unfailed-file end.SourceFault result is ends = absurd ends
-unfailed-file (end.Reopen fault) result is ends = absurd ends
-unfailed-file (end.Compaction fault) result is ends = absurd ends
-unfailed-file (end.Fault fault) result is ends = absurd ends
-unfailed-file end.NoMemory result is ends = absurd ends
+unfailed-file _ result is ends = absurd ends
 
 replayed-cause : (r : ReplayEnd) (result : UnpackEnd) (disk disk_now say say_now source source_now : ℕ) → IsEndOf r result
     → HasUnpackCause result disk disk_now say say_now source source_now → HasReplayCause r disk disk_now say say_now source source_now
@@ -133,7 +130,7 @@ present d bytes c here read none =
 pub unpacks : {S P : Type 0} (source : SourceMeanings S) (w : StationMeanings P) (c : ℕ) (result : UnpackEnd) (od nd oc nc : S) (old : P) (first last : Engine P)
     → Opens source w (Ok first) od nd old
     → ((n : Need) (es : List Entry) → IsTrue (keeps_one first.directory) → IsTrue (is_sound first.directory n) → KeepsLaws first.directory n es)
-    → Runs (switch_meanings w.observed w.calls) w.observed source.observed result first last (source.left oc) (source.left nc) c
+    → Runs (switch_meanings w) w.observed source.observed result first last (source.left oc) (source.left nc) c
     → length first.directory.circuits ≤ 100 → c < length first.directory.circuits → (source.observed → directory_of_bytes (source.left od) ≡ Ok first.directory)
     → HasUnpackCause result (w.disk_faults first.station) (w.disk_faults last.station) (w.say_faults first.station) (w.say_faults last.station) (source.faults oc) (source.faults nc)
     → Leaves w last
@@ -162,37 +159,23 @@ unpacks source w c result od nd oc nc old first last opens laws run narrow here 
 -- ---- what ends it before
 
 refusal-is : (s : Status) → IsRefusal s → IsStatusOf s s
-refusal-is Done ends = refl
-refusal-is Usage ends = refl
 refusal-is (Directory fault) ends = refl
-refusal-is (OldDirectory fault) ends = absurd ends
-refusal-is (Changed part row) ends = absurd ends
-refusal-is (Closed row count) ends = absurd ends
-refusal-is (Capture at) ends = absurd ends
 refusal-is NoJournal ends = refl
 refusal-is OldVersion ends = refl
 refusal-is (OtherDirectory want found) ends = refl
 refusal-is (Damaged file at) ends = refl
-refusal-is (Exists size) ends = refl
-refusal-is (File at) ends = refl
-refusal-is (Feed at) ends = refl
-refusal-is (OtherFeed index own fed) ends = refl
 refusal-is DiskFault ends = refl
 refusal-is InputFault ends = refl
-refusal-is OutputFault ends = refl
-refusal-is (Full used need limit) ends = refl
-refusal-is (LineFault c) ends = refl
-refusal-is (LongSession c) ends = refl
-refusal-is (TicketsSpent c) ends = refl
 refusal-is NoMemory ends = refl
+refusal-is _ ends = absurd ends
 
 -- the directory was not accepted, or the journal not opened
 pub unbegun : {S P : Type 0} (source : SourceMeanings S) (w : StationMeanings P) (c : ℕ) (status : Status) (od nd oc : S) (old new : P)
-    (result : Result (Engine P) (Handed P)) → result ≡ Err (handed status new) → Opens source w result od nd old
-    → (source.observed → HasNoCircuit (source.left od) c → (Rose (source.faults od) (source.faults nd) → ⊥) → (status ≡ Usage) ⊎ (status ≡ NoMemory))
+    → Opens source w (Err (handed status new)) od nd old
+    → (source.observed → HasNoCircuit (source.left od) c → Stays (source.faults od) (source.faults nd) → EndsIn Usage status)
     → Unpacks source w c status (world od oc old) (world nd oc new)
-unbegun source w c status od nd oc old new result is h circuit =
-    let ends : IsRefusal status = (h.refused status new is).ends in
+unbegun source w c status od nd oc old new h circuit =
+    let ends : IsRefusal status = (h.refused status new refl).ends in
     let file = unpacked (captured (source.left oc) c) oc in
     record {
       words = λ e. absurd (subst IsRefusal e ends);
@@ -200,7 +183,7 @@ unbegun source w c status od nd oc old new result is h circuit =
         replayed = status;
         is = refusal-is status ends;
         left = captured (source.left oc) c;
-        replays = refused Journaled source (capture_meanings source) w status od nd file old new result is h;
+        replays = refused Journaled source (capture_meanings source) w status od nd file old new h;
         source_fault = λ e observed. inr (untouched (source.left oc) c);
       };
       accum = λ at e. absurd (subst IsRefusal e ends);
@@ -214,42 +197,16 @@ unbegun source w c status od nd oc old new result is h circuit =
 pub unaccepted : {S P : Type 0} (source : SourceMeanings S) (w : StationMeanings P) (c : ℕ) (status : Status) (od nd oc : S) (old : P)
     → ReadsDirectory source (Err status) od nd → Unpacks source w c status (world od oc old) (world nd oc old)
 unaccepted source w c status od nd oc old h =
-    unbegun source w c status od nd oc old old (Err (handed status old)) refl (no_directory source w status od nd old h)
-    (λ observed none kept. go status refl (h.ends status refl) observed none kept)
-  where
-    go : (s : Status) → status ≡ s → IsReadEnd s → source.observed → HasNoCircuit (source.left od) c → (Rose (source.faults od) (source.faults nd) → ⊥) → (status ≡ Usage) ⊎ (status ≡ NoMemory)
-    go (Directory fault) is ends observed none kept =
-        absurd (no_fault none.0 fault (directory_of_bytes (source.left od)) none.1 (h.fault observed fault (ap (λ (x : Status). Err x) is)))
-    go InputFault is ends observed none kept = absurd (kept (h.cause.failed (ap (λ (x : Status). Err x) is)))
-    go NoMemory is ends observed none kept = inr is
-    go Done is ends observed none kept = absurd ends
-    go Usage is ends observed none kept = absurd ends
-    go (OldDirectory fault) is ends observed none kept = absurd ends
-    go (Changed part row) is ends observed none kept = absurd ends
-    go (Closed row count) is ends observed none kept = absurd ends
-    go (Capture at) is ends observed none kept = absurd ends
-    go NoJournal is ends observed none kept = absurd ends
-    go OldVersion is ends observed none kept = absurd ends
-    go (OtherDirectory want found) is ends observed none kept = absurd ends
-    go (Damaged file at) is ends observed none kept = absurd ends
-    go (Exists size) is ends observed none kept = absurd ends
-    go (File at) is ends observed none kept = absurd ends
-    go (Feed at) is ends observed none kept = absurd ends
-    go (OtherFeed index own fed) is ends observed none kept = absurd ends
-    go DiskFault is ends observed none kept = absurd ends
-    go OutputFault is ends observed none kept = absurd ends
-    go (Full used need limit) is ends observed none kept = absurd ends
-    go (LineFault n) is ends observed none kept = absurd ends
-    go (LongSession n) is ends observed none kept = absurd ends
-    go (TicketsSpent n) is ends observed none kept = absurd ends
+    unbegun source w c status od nd oc old old (no_directory source w status od nd old h)
+    (λ observed none kept. inr (only_memory (λ fault. Directory fault) IsReadEnd new_ended source status od nd h observed none.0 none.1 kept))
 
 -- the journal was not opened, under a directory that has the circuit
 pub unopened : {S P : Type 0} (source : SourceMeanings S) (w : StationMeanings P) (c : ℕ) (status : Status) (d : directories.Directory) (od nd oc : S) (old new : P)
-    (result : Result (Engine P) (Handed P)) → result ≡ Err (handed status new) → Opens source w result od nd old
+    → Opens source w (Err (handed status new)) od nd old
     → c < length d.circuits → (source.observed → directory_of_bytes (source.left od) ≡ Ok d)
     → Unpacks source w c status (world od oc old) (world nd oc new)
-unopened source w c status d od nd oc old new result is h here read =
-    unbegun source w c status od nd oc old new result is h (λ observed none kept. absurd (present d (source.left od) c here (read observed) none))
+unopened source w c status d od nd oc old new h here read =
+    unbegun source w c status od nd oc old new h (λ observed none kept. absurd (present d (source.left od) c here (read observed) none))
 
 -- the directory has no such circuit
 pub no-circuit : {S P : Type 0} (source : SourceMeanings S) (w : StationMeanings P) (c : ℕ) (d : directories.Directory) (od nd oc : S) (old : P)

@@ -1,12 +1,12 @@
 -- What each end of the command `compact` means for what it works on.
-use Rattle.std.specs.Prelude.{◌≡◌, ◌≢◌, ◌⊎◌, ℕ, ◌+◌, ◌≤◌, List, ◌∷◌, ◌++◌, length, None, Ok, Err}
-use Rattle.gts_app.specs.Cited.Below.{Call, Did, EachSince, Ghosts as StationMeanings, IsFullCompacted, LONGEST_DIRECTORY, Need, OpenFault, OpensAsBefore, OpensWith, Rose, SourceMeanings, Syncs, begun, checkpoint_file, compacted_size, directory_of_bytes, full_compacted, opens, said_by, seen, selected}
+use Rattle.std.specs.Prelude.{◌≡◌, ◌≢◌, ◌⊎◌, ℕ, List, ◌∷◌, None, Ok}
+use Rattle.gts_app.specs.Cited.Below.{Call, Did, EachSince, Ghosts as StationMeanings, IsFullCompacted, Need, OpensAsBefore, OpensWith, Rose, SourceMeanings, Syncs, begun, checkpoint_file, compacted_size, directory_of_bytes, full_compacted, opens, said_by, seen, selected}
 use Rattle.gts_directory.specs.Directory as directories
 use Rattle.gts_event.specs.declared.fault.SwitchFault.TheVariants as switch
 use Rattle.gts_app.specs.declared.status.Status.{Status}
-use Rattle.gts_app.specs.declared.status.Status.TheVariants.{Done, DiskFault, Full, NoMemory}
-use Rattle.gts_app.specs.Ending.{refusal}
-use Rattle.gts_app.specs.Opening.{IsRefusal, Refuses}
+use Rattle.gts_app.specs.declared.status.Status.TheVariants.{Done, DiskFault, Full}
+use Rattle.gts_app.specs.Opening.{IsRefusal, Refuses, AnswersFault, NoneFalls, WhereOpened}
+use Rattle.gts_app.specs.Reading.{EndsIn, ReadsFew}
 
 -- where source and station tell, the directory is read under which the files open to a need, and this holds of both
 abbrev pub Over : {S P : Type 0} → SourceMeanings S → StationMeanings P → S → P → (directories.Directory → Need → Type 0) → Type 0
@@ -60,18 +60,10 @@ pub record Compacts {S P : Type 0} (source : SourceMeanings S) (station : Statio
   pub silent : source.observed → station.observed → said_by (station.calls new) ≡ said_by (station.calls old)
   -- under a directory that is accepted, where the files open, a compacted journal has room and the devices don't fail, it is
   -- done, but for memory
-  pub complete : source.observed → station.observed → (d : directories.Directory) (n : Need)
-      → directory_of_bytes (source.left old_directory) ≡ Ok d → opens d (seen (station.calls old)) ≡ Ok n
-      → full_compacted d (begun n) ≡ None
-      → (Rose (source.faults old_directory) (source.faults new_directory) → ⊥)
-      → (Rose (station.disk_faults old) (station.disk_faults new) → ⊥) → (status ≡ Done) ⊎ (status ≡ NoMemory)
+  pub complete : WhereOpened source station old_directory new_directory old new
+      (λ d n. full_compacted d (begun n) ≡ None → EndsIn Done status)
   -- and where the files open to a fault, that is answered
-  pub answered : source.observed → station.observed → (d : directories.Directory) (fault : OpenFault)
-      → directory_of_bytes (source.left old_directory) ≡ Ok d → opens d (seen (station.calls old)) ≡ Err fault
-      → (Rose (source.faults old_directory) (source.faults new_directory) → ⊥)
-      → (Rose (station.disk_faults old) (station.disk_faults new) → ⊥) → (status ≡ refusal fault) ⊎ (status ≡ NoMemory)
+  pub answered : AnswersFault source station status old_directory new_directory old new
   -- what is read, and that no count falls
-  pub taken : source.observed → (taken : List ℕ) × (source.left old_directory ≡ taken ++ source.left new_directory)
-      × (length taken ≤ LONGEST_DIRECTORY + 1)
-  pub counts : (source.faults old_directory ≤ source.faults new_directory) × (station.disk_faults old ≤ station.disk_faults new)
-      × (station.say_faults old ≤ station.say_faults new)
+  pub taken : ReadsFew source old_directory new_directory
+  pub counts : NoneFalls source station old_directory new_directory old new

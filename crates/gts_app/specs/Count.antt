@@ -1,12 +1,12 @@
 -- What each end of the command `count` means for what it works on.
-use Rattle.std.specs.Prelude.{◌≡◌, ◌⊎◌, ℕ, ◌≤◌, List, ◌∷◌, Ok, None}
-use Rattle.gts_app.specs.Cited.Below.{Breaks, CountedParts, Counts, Did, Engine, Entry, Ghosts as StationMeanings, Holds, IsOrdered, IsWholeOf, Need, OpensWith, Origin, ReplayEnd, Rose, Says, SourceMeanings, State, Step, Traffic, directory_of_bytes, need, opens, seen, state_at, table, used_at}
-use Rattle.gts_directory.specs.Directory as directories
+use Rattle.std.specs.Prelude.{◌≡◌, ◌⊎◌, ℕ, ◌≤◌, List, ◌∷◌, None}
+use Rattle.gts_app.specs.Cited.Below.{Breaks, CountedParts, Counts, Did, Engine, Entry, Ghosts as StationMeanings, Holds, IsOrdered, IsWholeOf, OpensWith, Origin, ReplayEnd, Rose, Says, SourceMeanings, State, Step, Traffic, need, seen, state_at, table, used_at}
 use Rattle.gts_replay.specs.declared.end.ReplayEnd.TheVariants as end
 use Rattle.gts_app.specs.declared.status.Status.{Status}
 use Rattle.gts_app.specs.declared.status.Status.TheVariants.{Done, OutputFault, NoMemory}
 use Rattle.gts_app.specs.Ending.{status_of}
-use Rattle.gts_app.specs.Replay.{World, world, Replays, Under, Does, history, counted, HasRoom}
+use Rattle.gts_app.specs.Replay.{World, world, Replays, Under, Does, history, counted, EndsWhole}
+use Rattle.gts_app.specs.Opening.{WhereOpened}
 
 -- whatever state the core of an engine holds, the numbers beside it are those of its need
 abbrev pub CountsEngine : {P : Type 0} → CountedParts (Engine P) → Type 0
@@ -55,15 +55,8 @@ pub record CountsTraffic {S P : Type 0} (source : SourceMeanings S) (station : S
   pub done : status ≡ Done → SaysTable source station Done before old new
   -- a capture under a directory that is accepted, and a journal that opens under it and has room, over devices that don't fail,
   -- is done, but for memory
-  pub complete : source.observed → station.observed
-      → (d : directories.Directory) (n : Need) (steps : List Step)
-      → directory_of_bytes (source.left old.directory) ≡ Ok d → opens d (seen (station.calls old.station)) ≡ Ok n
-      → IsWholeOf Traffic d (source.left old.capture) steps → HasRoom d (seen (station.calls old.station)) steps
-      → (Rose (source.faults old.directory) (source.faults new.directory) → ⊥)
-      → (Rose (source.faults old.capture) (source.faults new.capture) → ⊥)
-      → (Rose (station.say_faults old.station) (station.say_faults new.station) → ⊥)
-      → (Rose (station.disk_faults old.station) (station.disk_faults new.station) → ⊥)
-      → (status ≡ Done) ⊎ (status ≡ NoMemory)
+  pub complete : WhereOpened source station old.directory new.directory old.station new.station
+      (λ d n. EndsWhole Traffic source station status old new d)
   -- no count falls
   pub station_counts : (station.say_faults old.station ≤ station.say_faults new.station)
       × (station.disk_faults old.station ≤ station.disk_faults new.station)

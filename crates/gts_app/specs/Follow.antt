@@ -1,6 +1,6 @@
 -- What each end of the command `follow` means for what it works on.
-use Rattle.std.specs.Prelude.{◌≡◌, ◌⊎◌, ℕ, ◌+◌, ◌≤◌, List, [], ◌++◌, length, Ok, Err}
-use Rattle.gts_app.specs.Cited.Below.{Call, DirFault, EachImageReads, EachOpens, EndsAs, FollowEnd, Ghosts as StationMeanings, IsEnd, LONGEST_DIRECTORY, OnlySyncs, OpenFault, Rose, SourceMeanings, State, comes_to, directory_of_bytes, files_read, need, opens, read_after, restarted, said_by, seen, state_after, written}
+use Rattle.std.specs.Prelude.{◌≡◌, ◌⊎◌, ℕ, ◌≤◌, List, [], Ok, Err}
+use Rattle.gts_app.specs.Cited.Below.{Call, DirFault, EachImageReads, EachOpens, EndsAs, FollowEnd, Ghosts as StationMeanings, IsEnd, OnlySyncs, OpenFault, Rose, SourceMeanings, State, comes_to, directory_of_bytes, files_read, need, opens, read_after, restarted, said_by, seen, state_after, written}
 use Rattle.gts_standby.specs.Taking.{Taken}
 use Rattle.gts_directory.specs.Directory as directories
 use Rattle.gts_record.specs.declared.fault.OpenFault.TheVariants as opening
@@ -10,6 +10,8 @@ use Rattle.gts_app.specs.declared.status.Status.TheVariants.{Done, Directory, No
 use Rattle.gts_app.specs.Ending.{refusal}
 use Rattle.gts_app.specs.Replay.{World}
 use Rattle.gts_app.specs.Pack.{IsUnbegun, IsTurnedAway}
+use Rattle.gts_app.specs.Reading.{ReadsFew, Stays}
+use Rattle.gts_app.specs.Opening.{Under}
 
 -- an end keeps its name
 abbrev pub status_followed : FollowEnd → Status
@@ -20,11 +22,6 @@ status_followed (follow.Diverged index own fed) = OtherFeed index own fed
 status_followed follow.SourceFault = InputFault
 status_followed follow.DiskFault = DiskFault
 status_followed follow.NoMemory = NoMemory
-
--- where source and station tell, a directory is read, and this holds of it
-abbrev pub Under : {S P : Type 0} → SourceMeanings S → StationMeanings P → World S S P → (directories.Directory → Type 0) → Type 0
-Under source station old OfIt =
-    source.observed → station.observed → (d : directories.Directory) × (directory_of_bytes (source.left old.directory) ≡ Ok d) × OfIt d
 
 -- The files opened, and the bytes of the feed came to this beside them, with an end as it is answered. The journal has all that
 -- they add, behind what it had or behind the checkpoint with which it begins anew, and nothing else; and a loss of power leaves all
@@ -44,12 +41,13 @@ pub record TakesFeed (d : directories.Directory) (old new : List Call) (fed : Li
 -- the feed was taken into the journal of the directory, and this was answered
 abbrev pub TakenAs : {S P : Type 0} → FollowEnd → SourceMeanings S → StationMeanings P → (old new : World S S P) → Type 0
 TakenAs answer source station old new =
-    Under source station old (λ d. TakesFeed d (station.calls old.station) (station.calls new.station) (source.left old.capture) answer)
+    Under source station old.directory
+    (λ d. TakesFeed d (station.calls old.station) (station.calls new.station) (source.left old.capture) answer)
 
 -- The files open to this fault. They are left alone, but for a sync that was tried, and nothing of the feed is read.
 pub record RefusedBy {S P : Type 0} (fault : OpenFault) (source : SourceMeanings S) (station : StationMeanings P)
     (old new : World S S P) : Type 0 where
-  pub opened : Under source station old (λ d. opens d (seen (station.calls old.station)) ≡ Err fault)
+  pub opened : Under source station old.directory (λ d. opens d (seen (station.calls old.station)) ≡ Err fault)
   pub only_syncs : source.observed → station.observed → OnlySyncs (station.calls old.station) (station.calls new.station)
   pub unread : source.observed → station.observed → new.capture ≡ old.capture
 
@@ -97,15 +95,14 @@ pub record FollowsFeed {S P : Type 0} (source : SourceMeanings S) (station : Sta
   -- over devices that don't fail, a feed ends as it comes to, but for memory
   pub complete : source.observed → station.observed → (d : directories.Directory) (read : State × ℕ × List ℕ) (taken : Taken)
       → ComesTo source station old d read taken
-      → (Rose (source.faults old.directory) (source.faults new.directory) → ⊥)
-      → (Rose (source.faults old.capture) (source.faults new.capture) → ⊥)
-      → (Rose (station.disk_faults old.station) (station.disk_faults new.station) → ⊥)
+      → Stays (source.faults old.directory) (source.faults new.directory)
+      → Stays (source.faults old.capture) (source.faults new.capture)
+      → Stays (station.disk_faults old.station) (station.disk_faults new.station)
       → ((answer : FollowEnd) × IsEnd answer × (status ≡ status_followed answer) × EndsAs answer taken.end) ⊎ (status ≡ NoMemory)
   -- nothing is said
   pub silent : station.observed → said_by (station.calls new.station) ≡ said_by (station.calls old.station)
   -- what is read of the directory, and that no count falls
-  pub directory_taken : source.observed → (taken : List ℕ) × (source.left old.directory ≡ taken ++ source.left new.directory)
-      × (length taken ≤ LONGEST_DIRECTORY + 1)
+  pub directory_taken : ReadsFew source old.directory new.directory
   pub source_counts : (source.faults old.directory ≤ source.faults new.directory)
       × (source.faults old.capture ≤ source.faults new.capture)
   pub station_counts : (station.say_faults new.station ≡ station.say_faults old.station)

@@ -1,7 +1,7 @@
 -- What each end of the commands `migrate` and `migrate drop` means for what they work on: the directory, the old directory in the
 -- place of a capture, and the station.
-use Rattle.std.specs.Prelude.{◌≡◌, ◌⊎◌, ℕ, ◌+◌, ◌≤◌, List, [], ◌∷◌, ◌++◌, length, None, Some, Result, Ok, Err}
-use Rattle.gts_app.specs.Cited.Below.{Call, Change, Did, DirFault, Dropped, EachSince, Ghosts as StationMeanings, IsFront, IsFullCompacted, IsMigrated, LONGEST_DIRECTORY, MigrateFault, Need, OnlySyncs, OpenFault, OpensEither, Outside, Refused, Rose, SaidSince, SourceMeanings, State, Syncs, TakesOver, Waiting, directory_of_bytes, files_open_any, first_change, full_compacted, need, opens_any, said_by, sayings, seen, waits_on_closed}
+use Rattle.std.specs.Prelude.{◌≡◌, ◌⊎◌, ℕ, ◌≤◌, List, [], ◌∷◌, None, Some, Result, Ok, Err}
+use Rattle.gts_app.specs.Cited.Below.{Call, Change, Did, DirFault, Dropped, EachSince, Ghosts as StationMeanings, IsFront, IsFullCompacted, IsMigrated, MigrateFault, Need, OnlySyncs, OpenFault, OpensEither, Outside, Refused, Rose, SaidSince, SourceMeanings, State, Syncs, TakesOver, Waiting, directory_of_bytes, files_open_any, first_change, full_compacted, need, opens_any, said_by, sayings, seen, waits_on_closed}
 use Rattle.gts_migrate.specs.LettingGo.{goes_on}
 use Rattle.gts_directory.specs.Directory as directories
 use Rattle.gts_event.specs.declared.fault.SwitchFault.TheVariants as switch
@@ -12,6 +12,7 @@ use Rattle.gts_app.specs.declared.status.Status.TheVariants.{Done, Directory, Ol
 use Rattle.gts_app.specs.Ending.{refusal}
 use Rattle.gts_app.specs.Pack.{IsTurnedAway}
 use Rattle.gts_app.specs.Replay.{World}
+use Rattle.gts_app.specs.Reading.{EndsIn, ReadsFew, Stays}
 
 -- the status of a journal that was to be taken over
 abbrev pub status_migrated : Result (Unit {0}) MigrateFault → Status
@@ -131,42 +132,19 @@ LeavesJournal waiting station w v new old n =
 -- no read failed
 abbrev pub IsCalm : {S P : Type 0} → SourceMeanings S → World S S P → World S S P → Type 0
 IsCalm source w v =
-    (Rose (source.faults w.directory) (source.faults v.directory) → ⊥) × (Rose (source.faults w.capture) (source.faults v.capture) → ⊥)
+    Stays (source.faults w.directory) (source.faults v.directory) × Stays (source.faults w.capture) (source.faults v.capture)
 
--- so much of a source was read at most
-abbrev pub ReadsFew : {S : Type 0} → SourceMeanings S → S → S → Type 0
-ReadsFew source old new =
-    source.observed → (taken : List ℕ) × (source.left old ≡ taken ++ source.left new) × (length taken ≤ LONGEST_DIRECTORY + 1)
-
--- What its end means, and what holds of every run.
-pub record Migrates {S P : Type 0} (waiting : Waiting) (source : SourceMeanings S) (station : StationMeanings P) (status : Status)
+-- What holds of every run under a directory that is to take over from an old one, whatever is made of the journal.
+pub record ReadsBoth {S P : Type 0} (source : SourceMeanings S) (station : StationMeanings P) (status : Status)
     (w v : World S S P) : Type 0 where
-  pub means : MigratedAs waiting source station status w v
-  -- a crash at any moment since the sync of the opening leaves a journal under one of the directories
-  pub moments : source.observed → station.observed → (new old : directories.Directory) (n : Need) → AreRead source w new old
-      → opens_any old (seen (station.calls w.station)) ≡ Ok n → LeavesJournal waiting station w v new old n
-  -- nothing is said where what waits is refused
-  pub silent : station.observed → waiting ≡ Refused → said_by (station.calls v.station) ≡ said_by (station.calls w.station)
   -- an old directory that is refused, a row that doesn't stay, and a fault of the files are answered, but for memory and devices
   pub old_refused : source.observed → (new : directories.Directory) (e : DirFault) → directory_of_bytes (source.left w.directory) ≡ Ok new
-      → directory_of_bytes (source.left w.capture) ≡ Err e → IsCalm source w v → (status ≡ OldDirectory e) ⊎ (status ≡ NoMemory)
+      → directory_of_bytes (source.left w.capture) ≡ Err e → IsCalm source w v → EndsIn (OldDirectory e) status
   pub changed : source.observed → (new old : directories.Directory) (c : Change) → AreRead source w new old → first_change new old ≡ Some c
-      → IsCalm source w v → (status ≡ Changed c.part c.row) ⊎ (status ≡ NoMemory)
+      → IsCalm source w v → EndsIn (Changed c.part c.row) status
   pub answered : source.observed → station.observed → (new old : directories.Directory) (e : OpenFault) → AreRead source w new old
       → TakesOver new old → opens_any old (seen (station.calls w.station)) ≡ Err e → IsCalm source w v
-      → (Rose (station.disk_faults w.station) (station.disk_faults v.station) → ⊥) → (status ≡ refusal e) ⊎ (status ≡ NoMemory)
-  -- what waits on a circuit that is closed in the new directory is told, unless it is to be dropped
-  pub refused : source.observed → station.observed → (new old : directories.Directory) (s : State) (used : ℕ) (found : ℕ × ℕ)
-      → AreRead source w new old → TakesOver new old → files_open_any old (seen (station.calls w.station)) ≡ Ok (s, used)
-      → RefusesWaiting waiting new (need old s) found → IsCalm source w v
-      → (Rose (station.disk_faults w.station) (station.disk_faults v.station) → ⊥) → (status ≡ Closed found.0 found.1) ⊎ (status ≡ NoMemory)
-  -- where the files open, and nothing is refused that waits, and there is room, and no device fails, it is done, but for memory
-  pub complete : source.observed → station.observed → (new old : directories.Directory) (s : State) (used : ℕ) → AreRead source w new old
-      → TakesOver new old → files_open_any old (seen (station.calls w.station)) ≡ Ok (s, used)
-      → MayGo waiting new (need old s)
-      → full_compacted new (goes_on new old (need old s)) ≡ None → IsCalm source w v
-      → (Rose (station.disk_faults w.station) (station.disk_faults v.station) → ⊥)
-      → (Rose (station.say_faults w.station) (station.say_faults v.station) → ⊥) → (status ≡ Done) ⊎ (status ≡ NoMemory)
+      → Stays (station.disk_faults w.station) (station.disk_faults v.station) → EndsIn (refusal e) status
   -- where the directory can't be read, the old one isn't
   pub unread : source.observed → (e : DirFault) → directory_of_bytes (source.left w.directory) ≡ Err e → v.capture ≡ w.capture
   -- what is read, and that no count falls
@@ -174,4 +152,27 @@ pub record Migrates {S P : Type 0} (waiting : Waiting) (source : SourceMeanings 
   pub old_taken : ReadsFew source w.capture v.capture
   pub counts : (source.faults w.directory ≤ source.faults v.directory) × (source.faults w.capture ≤ source.faults v.capture)
       × (station.disk_faults w.station ≤ station.disk_faults v.station) × (station.say_faults w.station ≤ station.say_faults v.station)
+
+-- What its end means, and what holds of every run.
+pub record Migrates {S P : Type 0} (waiting : Waiting) (source : SourceMeanings S) (station : StationMeanings P) (status : Status)
+    (w v : World S S P) : Type 0 where
+  pub means : MigratedAs waiting source station status w v
+  pub both : ReadsBoth source station status w v
+  -- a crash at any moment since the sync of the opening leaves a journal under one of the directories
+  pub moments : source.observed → station.observed → (new old : directories.Directory) (n : Need) → AreRead source w new old
+      → opens_any old (seen (station.calls w.station)) ≡ Ok n → LeavesJournal waiting station w v new old n
+  -- nothing is said where what waits is refused
+  pub silent : station.observed → waiting ≡ Refused → said_by (station.calls v.station) ≡ said_by (station.calls w.station)
+  -- what waits on a circuit that is closed in the new directory is told, unless it is to be dropped
+  pub refused : source.observed → station.observed → (new old : directories.Directory) (s : State) (used : ℕ) (found : ℕ × ℕ)
+      → AreRead source w new old → TakesOver new old → files_open_any old (seen (station.calls w.station)) ≡ Ok (s, used)
+      → RefusesWaiting waiting new (need old s) found → IsCalm source w v
+      → Stays (station.disk_faults w.station) (station.disk_faults v.station) → EndsIn (Closed found.0 found.1) status
+  -- where the files open, and nothing is refused that waits, and there is room, and no device fails, it is done, but for memory
+  pub complete : source.observed → station.observed → (new old : directories.Directory) (s : State) (used : ℕ) → AreRead source w new old
+      → TakesOver new old → files_open_any old (seen (station.calls w.station)) ≡ Ok (s, used)
+      → MayGo waiting new (need old s)
+      → full_compacted new (goes_on new old (need old s)) ≡ None → IsCalm source w v
+      → Stays (station.disk_faults w.station) (station.disk_faults v.station)
+      → Stays (station.say_faults w.station) (station.say_faults v.station) → EndsIn Done status
   pub quiet : waiting ≡ Refused → station.say_faults v.station ≡ station.say_faults w.station

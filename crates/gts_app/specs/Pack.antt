@@ -1,11 +1,12 @@
 -- What each end of the command `pack` means for what it works on.
-use Rattle.std.specs.Prelude.{◌≡◌, ◌⊎◌, ℕ, ◌+◌, ◌≤◌, List, ◌++◌, length, Ok, Err, None}
-use Rattle.gts_app.specs.Cited.Below.{DirFault, Ghosts as StationMeanings, IsBad, IsTaken, LONGEST_DIRECTORY, PackEnd, Rose, SaysFront, SaysOnly, SourceMeanings, bad_in_stream, directory_of_bytes, on, packed, seen}
+use Rattle.std.specs.Prelude.{◌≡◌, ◌⊎◌, ℕ, ◌≤◌, Ok, Err, None}
+use Rattle.gts_app.specs.Cited.Below.{DirFault, Ghosts as StationMeanings, IsBad, IsTaken, PackEnd, Rose, SaysFront, SaysOnly, SourceMeanings, bad_in_stream, directory_of_bytes, on, packed, seen}
 use Rattle.gts_directory.specs.Directory as directories
 use Rattle.gts_accum.specs.declared.pack_end.PackEnd.TheVariants as end
 use Rattle.gts_app.specs.declared.status.Status.{Status}
 use Rattle.gts_app.specs.declared.status.Status.TheVariants.{Done, Directory, File, InputFault, OutputFault, NoMemory}
 use Rattle.gts_app.specs.Replay.{World}
+use Rattle.gts_app.specs.Reading.{ReadsFew}
 
 abbrev pub status_packed : PackEnd → Status
 status_packed end.Done = Done
@@ -50,8 +51,7 @@ PackedAs source station _ old new = ⊥
 
 -- Of the source of the directory no more is read than it may have and a byte, no count falls, and the files stay.
 pub record KeepsFiles {S P : Type 0} (source : SourceMeanings S) (station : StationMeanings P) (old new : World S S P) : Type 0 where
-  pub taken : source.observed → (taken : List ℕ) × (source.left old.directory ≡ taken ++ source.left new.directory)
-      × (length taken ≤ LONGEST_DIRECTORY + 1)
+  pub taken : ReadsFew source old.directory new.directory
   pub source_counts : (source.faults old.directory ≤ source.faults new.directory)
       × (source.faults old.capture ≤ source.faults new.capture)
   pub station_counts : (station.say_faults old.station ≤ station.say_faults new.station)

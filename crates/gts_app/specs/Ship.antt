@@ -1,12 +1,14 @@
 -- What each end of the command `ship` means for what it works on.
-use Rattle.std.specs.Prelude.{◌≡◌, ◌⊎◌, ℕ, ◌+◌, ◌≤◌, List, ◌++◌, length, Option, Result, Ok, Err}
-use Rattle.gts_app.specs.Cited.Below.{Ghosts as StationMeanings, IsShipFault, LONGEST_DIRECTORY, OnlySyncs, OpenFault, Rose, SaysFrontSynced, ShipFault, ShipsOnly, Since, SourceMeanings, asked_of, directory_of_bytes, opens, seen}
+use Rattle.std.specs.Prelude.{◌≡◌, ◌⊎◌, ℕ, Option, Result, Ok, Err}
+use Rattle.gts_app.specs.Cited.Below.{Ghosts as StationMeanings, IsShipFault, OnlySyncs, OpenFault, Rose, SaysFrontSynced, ShipFault, ShipsOnly, Since, SourceMeanings, asked_of, directory_of_bytes, opens, seen}
 use Rattle.gts_directory.specs.Directory as directories
 use Rattle.gts_record.specs.declared.fault.OpenFault.TheVariants as opening
 use Rattle.gts_standby.specs.declared.fault.ShipFault.TheVariants as ship
 use Rattle.gts_app.specs.declared.status.Status.{Status}
 use Rattle.gts_app.specs.declared.status.Status.TheVariants.{Done, Directory, NoJournal, OldVersion, OtherDirectory, Damaged, DiskFault, InputFault, OutputFault, NoMemory}
 use Rattle.gts_app.specs.Ending.{refusal}
+use Rattle.gts_app.specs.Reading.{ReadsFew}
+use Rattle.gts_app.specs.Opening.{NoneFalls, Under}
 
 -- a fault keeps its name
 abbrev pub status_shipped : Result (Unit {0}) ShipFault → Status
@@ -15,11 +17,6 @@ status_shipped (Err (ship.Open fault)) = refusal fault
 status_shipped (Err ship.DiskFault) = DiskFault
 status_shipped (Err ship.SayFault) = OutputFault
 status_shipped (Err ship.NoMemory) = NoMemory
-
--- where source and station tell, a directory is read, and this holds of it
-abbrev pub Under : {S P : Type 0} → SourceMeanings S → StationMeanings P → S → (directories.Directory → Type 0) → Type 0
-Under source station directory OfIt =
-    source.observed → station.observed → (d : directories.Directory) × (directory_of_bytes (source.left directory) ≡ Ok d) × OfIt d
 
 -- at most a sync was tried; or the files were synced, and then a front of what was asked for was said, and nothing else
 abbrev pub SaysSome : {S P : Type 0} → Option Since → SourceMeanings S → StationMeanings P → S → (old new : P) → Type 0
@@ -64,7 +61,5 @@ pub record ShipsFeed {S P : Type 0} (since : Option Since) (source : SourceMeani
       → directory_of_bytes (source.left old_directory) ≡ Ok d → opens d (seen (station.calls old)) ≡ Err fault
       → OnlySyncs (station.calls old) (station.calls new)
   -- what is read, and that no count falls
-  pub taken : source.observed → (taken : List ℕ) × (source.left old_directory ≡ taken ++ source.left new_directory)
-      × (length taken ≤ LONGEST_DIRECTORY + 1)
-  pub counts : (source.faults old_directory ≤ source.faults new_directory) × (station.disk_faults old ≤ station.disk_faults new)
-      × (station.say_faults old ≤ station.say_faults new)
+  pub taken : ReadsFew source old_directory new_directory
+  pub counts : NoneFalls source station old_directory new_directory old new

@@ -1,15 +1,15 @@
 -- What each end of the command `migrate check` means for what it works on: the directory, the old directory in the place of a capture,
 -- and the station.
-use Rattle.std.specs.Prelude.{◌≡◌, ◌⊎◌, ℕ, ◌≤◌, List, ◌∷◌, Ok, Err, Some}
-use Rattle.gts_app.specs.Cited.Below.{Breaks, Change, Did, DirFault, Ghosts as StationMeanings, OnlySyncs, OpenFault, Rose, Says, SourceMeanings, State, Syncs, TakesOver, changes, directory_of_bytes, files_open_any, first_change, need, opens_any, seen}
+use Rattle.std.specs.Prelude.{◌≡◌, ◌⊎◌, ℕ, List, ◌∷◌, Ok, Some}
+use Rattle.gts_app.specs.Cited.Below.{Breaks, Did, Ghosts as StationMeanings, OnlySyncs, Rose, Says, SourceMeanings, State, Syncs, TakesOver, changes, files_open_any, first_change, need, seen}
 use Rattle.gts_directory.specs.Directory as directories
 use Rattle.gts_record.specs.declared.fault.OpenFault.TheVariants as opening
 use Rattle.gts_app.specs.declared.status.Status.{Status}
 use Rattle.gts_app.specs.declared.status.Status.TheVariants.{Done, Directory, OldDirectory, Changed, NoJournal, OldVersion, OtherDirectory, Damaged, DiskFault, InputFault, OutputFault, NoMemory}
-use Rattle.gts_app.specs.Ending.{refusal}
-use Rattle.gts_app.specs.Migrate.{AreRead, UnderBoth, OpensUnder, IsLeftAlone, IsRefusedBy, IsOldRefused, IsCalm, ReadsFew}
+use Rattle.gts_app.specs.Migrate.{AreRead, UnderBoth, OpensUnder, IsLeftAlone, IsRefusedBy, IsOldRefused, IsCalm, ReadsBoth}
 use Rattle.gts_app.specs.Pack.{IsTurnedAway}
 use Rattle.gts_app.specs.Replay.{World}
+use Rattle.gts_app.specs.Reading.{EndsIn, Stays}
 
 -- The new directory takes over from the old one, and where the station is observed, the files open to a state under that; this holds of
 -- the report of what would change if it were taken over.
@@ -50,26 +50,12 @@ MayHaveSaid _ = ⊥
 pub record TriesMigration {S P : Type 0} (source : SourceMeanings S) (station : StationMeanings P) (status : Status)
     (w v : World S S P) : Type 0 where
   pub means : TriedAs source station status w v
+  pub both : ReadsBoth source station status w v
   -- nothing is written; and where nothing was said, at most a sync was tried
   pub files : station.observed → (k : ℕ) → seen (station.calls v.station) k ≡ seen (station.calls w.station) k
   pub only_syncs : station.observed → (MayHaveSaid status → ⊥) → OnlySyncs (station.calls w.station) (station.calls v.station)
-  -- an old directory that is refused, a row that doesn't stay, and a fault of the files are answered, but for memory and devices
-  pub old_refused : source.observed → (new : directories.Directory) (e : DirFault) → directory_of_bytes (source.left w.directory) ≡ Ok new
-      → directory_of_bytes (source.left w.capture) ≡ Err e → IsCalm source w v → (status ≡ OldDirectory e) ⊎ (status ≡ NoMemory)
-  pub changed : source.observed → (new old : directories.Directory) (c : Change) → AreRead source w new old → first_change new old ≡ Some c
-      → IsCalm source w v → (status ≡ Changed c.part c.row) ⊎ (status ≡ NoMemory)
-  pub answered : source.observed → station.observed → (new old : directories.Directory) (e : OpenFault) → AreRead source w new old
-      → TakesOver new old → opens_any old (seen (station.calls w.station)) ≡ Err e → IsCalm source w v
-      → (Rose (station.disk_faults w.station) (station.disk_faults v.station) → ⊥) → (status ≡ refusal e) ⊎ (status ≡ NoMemory)
   -- where the files open, and no device fails, it is done, but for memory, also where `migrate` would refuse it
   pub complete : source.observed → station.observed → (new old : directories.Directory) (s : State) (used : ℕ) → AreRead source w new old
       → TakesOver new old → files_open_any old (seen (station.calls w.station)) ≡ Ok (s, used) → IsCalm source w v
-      → (Rose (station.disk_faults w.station) (station.disk_faults v.station) → ⊥)
-      → (Rose (station.say_faults w.station) (station.say_faults v.station) → ⊥) → (status ≡ Done) ⊎ (status ≡ NoMemory)
-  -- where the directory can't be read, the old one isn't
-  pub unread : source.observed → (e : DirFault) → directory_of_bytes (source.left w.directory) ≡ Err e → v.capture ≡ w.capture
-  -- what is read, and that no count falls
-  pub taken : ReadsFew source w.directory v.directory
-  pub old_taken : ReadsFew source w.capture v.capture
-  pub counts : (source.faults w.directory ≤ source.faults v.directory) × (source.faults w.capture ≤ source.faults v.capture)
-      × (station.disk_faults w.station ≤ station.disk_faults v.station) × (station.say_faults w.station ≤ station.say_faults v.station)
+      → Stays (station.disk_faults w.station) (station.disk_faults v.station)
+      → Stays (station.say_faults w.station) (station.say_faults v.station) → EndsIn Done status

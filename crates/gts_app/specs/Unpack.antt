@@ -1,11 +1,12 @@
 -- What each end of the command `unpack` means for what it works on.
-use Rattle.std.specs.Prelude.{◌≡◌, ◌⊎◌, ℕ, ◌+◌, ◌≤◌, List, [], ◌++◌, length, Some, None, Ok}
-use Rattle.gts_app.specs.Cited.Below.{Bad, Ended, Ghosts as StationMeanings, IsLeft, Journaled, LONGEST_DIRECTORY, Rose, SourceMeanings, UnpackEnd, badplace, captured, directory_of_bytes}
+use Rattle.std.specs.Prelude.{◌≡◌, ◌⊎◌, ℕ, ◌≤◌, List, [], length, Some, None, Ok}
+use Rattle.gts_app.specs.Cited.Below.{Bad, Ended, Ghosts as StationMeanings, IsLeft, Journaled, SourceMeanings, UnpackEnd, badplace, captured, directory_of_bytes}
 use Rattle.gts_directory.specs.Directory as directories
 use Rattle.gts_app.specs.declared.status.Status.{Status}
-use Rattle.gts_app.specs.declared.status.Status.TheVariants.{Done, Usage, Capture, File, InputFault, NoMemory}
+use Rattle.gts_app.specs.declared.status.Status.TheVariants.{Done, Usage, Capture, File, InputFault}
 use Rattle.gts_app.specs.Ending.{status_of}
 use Rattle.gts_app.specs.Replay.{World, world, Replays}
+use Rattle.gts_app.specs.Reading.{EndsIn, ReadsFew, Stays}
 
 abbrev pub status_unpacked : UnpackEnd → Status
 status_unpacked (Bad at) = File at
@@ -62,8 +63,7 @@ pub record Unpacks {S P : Type 0} (source : SourceMeanings S) (station : Station
   pub done : status ≡ Done → source.observed → station.observed → badplace (source.left old.capture) ≡ None
   -- where the directory is read and has no such circuit, the words are other ones, but for memory
   pub circuit : source.observed → HasNoCircuit (source.left old.directory) c
-      → (Rose (source.faults old.directory) (source.faults new.directory) → ⊥) → (status ≡ Usage) ⊎ (status ≡ NoMemory)
+      → Stays (source.faults old.directory) (source.faults new.directory) → EndsIn Usage status
   -- what is read of the directory, and that its source's count doesn't fall
-  pub directory_taken : source.observed → (taken : List ℕ) × (source.left old.directory ≡ taken ++ source.left new.directory)
-      × (length taken ≤ LONGEST_DIRECTORY + 1)
+  pub directory_taken : ReadsFew source old.directory new.directory
   pub directory_count : source.faults old.directory ≤ source.faults new.directory

@@ -5,7 +5,7 @@ use gts_app::{Status, World, run};
 use gts_memory::{MemSink, MemSource, MemStation};
 use gts_peer::talk;
 use gts_tcp::{TcpLines, dial, listen};
-use gts_traits::{Failed, FreeGate, JournalFile, NoMemory, WordList};
+use gts_traits::{Channel, Failed, FreeGate, JournalFile, NoMemory, WordList};
 use std::alloc::Global;
 use std::net::{Net, TcpListener, TcpStream};
 use std::process::Abort;
@@ -197,7 +197,7 @@ where
 /// The run was done, and the station has the receipts and the journal of two bulletins.
 fn is_served<R: Abort>(rt: &R, status: Status, station: &MemStation) {
     assert!(rt; status == Status::Done);
-    assert!(rt; station.said(0) == RECEIPTS);
+    assert!(rt; station.said(Channel::OPERATOR) == RECEIPTS);
     assert!(rt; station.file(JournalFile::FIRST).len() == JOURNAL_BYTES);
 }
 

@@ -9,7 +9,7 @@ mod waits;
 use crate::left::Left;
 use gts_app::{Status, World, run};
 use gts_memory::{MemLines, MemSource, MemStation, Touched};
-use gts_traits::{FreeGate, WordList};
+use gts_traits::{Channel, FreeGate, WordList};
 use std::alloc::Global;
 use std::process::Abort;
 use std::sync::Wait;
@@ -150,10 +150,13 @@ fn goes_on<R: AllocGlobal + Threads + Wait + Sync + Abort>(
 ) -> Result<(), Fail> {
     let Left { status, station } = run_word(rt, "replay", AGAIN, left)?;
     assert!(rt; status == Status::Done, "call {behind}");
-    assert!(rt; are_numbered(station.said(2)), "call {behind}");
-    let before = station.said(0).len();
+    assert!(rt;
+        are_numbered(station.said(Channel::of_circuit(1))),
+        "call {behind}"
+    );
+    let before = station.said(Channel::OPERATOR).len();
     let Left { station, .. } = run_word(rt, "show", b"", station)?;
-    let Some(report) = station.said(0).get(before..) else {
+    let Some(report) = station.said(Channel::OPERATOR).get(before..) else {
         return Err(Fail::from("no report"));
     };
     assert!(rt; report.starts_with(REPORT), "call {behind}");

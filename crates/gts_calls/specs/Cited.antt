@@ -1,6 +1,7 @@
 -- What files of this crate and of those above cite of it, in one place, and what it cites of those below.
 pub mod Below
 pub use Rattle.gts_calls.specs.Calls.{AfterCall, AfterSettling, Alone, AtOnce, Behind, GathersOne, HasCallCause, HasReopenCause, IsAnswerCause, IsAnswered, IsCalled, IsCause, IsCompactCause, IsCompacting, IsCutShort, IsIdle, IsInDoubt, IsOneMore, IsReopenFault, IsReopening, IsSettling, LeavesFrame, MayLeave, Standing, Stands, entry_of, outcome_at, restart_of, settled}
+pub use Rattle.gts_calls.specs.Counts.{CountsCall, CountsFeed, CountsReopening}
 pub use Rattle.gts_calls.specs.Fed.{AddsAtFault, AddsFed, EndsOver, EndsWith, IsShortAt, IsWanting, KeepsOver, LeavesLast, LosesLast, Takes, TurnsTogether, answer_of, end_heard, end_lost, is_all, is_done}
 pub use Rattle.gts_calls.specs.Reading.{EndsAt, EndsStep, IsNoLoss, Reads, is_event}
 pub use Rattle.gts_calls.specs.Going.{AfterHearing, BreaksFed, BreaksIdle, BreaksLast, BreaksOff, BreaksSoon, BreaksTogether, Goes, FeedsBehind, GoesFed, GoesOver, IsHeard, SettlesFed}

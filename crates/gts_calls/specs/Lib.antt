@@ -1,4 +1,5 @@
 pub mod Calls
+pub mod Counts
 pub mod Fed
 pub mod Reading
 pub mod Going

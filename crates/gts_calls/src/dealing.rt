@@ -1,5 +1,5 @@
 ghost use Rattle.std.specs.Prelude.{◌≡◌, ◌<◌, ℕ, List, length};
-ghost use Rattle.gts_calls.specs.Cited.{EndsStep, FeedsBehind, HasCallCause, HasMessage, IsShortAt, answer_of, end_heard, end_lost, events_of_signs, signs_of_step};
+ghost use Rattle.gts_calls.specs.Cited.{CountsFeed, EndsStep, FeedsBehind, HasMessage, IsShortAt, answer_of, end_heard, end_lost, events_of_signs, signs_of_step};
 
 use crate::{FeedEnd, Listens};
 use gts_event::{Outcome, SwitchFault};
@@ -22,9 +22,7 @@ pub fn deal<W: Listens>(
     ensures ends { EndsStep step result }
     ensures short { IsShortAt result message.now }
     ensures directory { W.meanings.directory switch.new ≡ W.meanings.directory switch.old }
-    ensures cause { HasCallCause (answer_of result)
-        (W.disk_faults switch.old) (W.disk_faults switch.new)
-        (W.say_faults switch.old) (W.say_faults switch.new) }
+    ensures cause { CountsFeed W.Listens (answer_of result) switch.old switch.new }
 {
     match step {
         Step::Frame(kind) => after_hearing(kind, switch.listen(alloc, c, kind, message)),

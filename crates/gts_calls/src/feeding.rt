@@ -1,5 +1,5 @@
 ghost use Rattle.std.specs.Prelude.{◌≡◌, ◌<◌, ◌≤◌, ℕ, List, length, take};
-ghost use Rattle.gts_calls.specs.Cited.{FeedsBehind, GoesOver, HasCallCause, HasMessage, IsShortAt, Reads, SettlesFed, Takes, answer_of, events_added, held_in};
+ghost use Rattle.gts_calls.specs.Cited.{CountsFeed, FeedsBehind, GoesOver, HasMessage, IsShortAt, Reads, SettlesFed, Takes, answer_of, events_added, held_in};
 
 use crate::dealing::deal;
 use crate::reading::next_step;
@@ -26,9 +26,7 @@ pub fn feed<W: Listens>(
         → FeedsBehind W.meanings c (events_added c before (take result.taken piece.now))
         decoder.new.message result.end switch.old switch.new }
     ensures directory { W.meanings.directory switch.new ≡ W.meanings.directory switch.old }
-    ensures cause { HasCallCause (answer_of result.end)
-        (W.disk_faults switch.old) (W.disk_faults switch.new)
-        (W.say_faults switch.old) (W.say_faults switch.new) }
+    ensures cause { CountsFeed W.Listens (answer_of result.end) switch.old switch.new }
 {
     let (taken, step) = next_step(decoder, piece);
     feed_behind(alloc, switch, c, decoder, piece, taken, step)
@@ -54,9 +52,7 @@ pub fn feed_behind<W: Listens>(
         (take result.taken piece.now) decoder.new.message result.end switch.new }
     ensures short { IsShortAt result.end decoder.new.message }
     ensures directory { W.meanings.directory switch.new ≡ W.meanings.directory switch.old }
-    ensures cause { HasCallCause (answer_of result.end)
-        (W.disk_faults switch.old) (W.disk_faults switch.new)
-        (W.say_faults switch.old) (W.say_faults switch.new) }
+    ensures cause { CountsFeed W.Listens (answer_of result.end) switch.old switch.new }
 {
     let mut taken = begun;
     let mut end = deal(alloc, switch, c, step, decoder.message());

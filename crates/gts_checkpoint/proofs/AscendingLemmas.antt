@@ -13,8 +13,7 @@ rises (x ∷ y ∷ zs) zero (suc (suc j)) h l m =
     let both = and_parts (nat_lt x y) (ascends (y ∷ zs)) h in
     let a : x < y = ltb-true x y both.0 in
     let b : y < get_or zs j 0 = rises (y ∷ zs) zero (suc j) both.1 (omega arith) (omega arith) in omega arith
-rises (x ∷ y ∷ zs) (suc i) (suc j) h l m =
-    rises (y ∷ zs) i j (and_parts (nat_lt x y) (ascends (y ∷ zs)) h).1 (omega arith) (omega arith)
+rises (x ∷ y ∷ zs) (suc i) (suc j) h l m = rises (y ∷ zs) i j (and_parts (nat_lt x y) (ascends (y ∷ zs)) h).1 (omega arith) (omega arith)
 
 -- each is below the next
 pub ascends-from : (xs : List ℕ) → ((i : ℕ) → suc i < length xs → get_or xs i 0 < get_or xs (suc i) 0) → ascends xs ≡ true

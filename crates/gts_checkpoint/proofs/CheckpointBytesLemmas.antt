@@ -1,4 +1,5 @@
 -- What is read of a checkpoint that stands in no file.
+use Rattle.std.proofs.lemmas.Grind.{common_steps}
 use Rattle.std.proofs.Common.{◌≡◌, ℕ, zero, suc, ◌+◌, ◌-◌, ◌≤◌, min, List, [], ◌∷◌, ◌++◌, length, take, drop, refl, sym, ap, ◌∙◌, arith, length-append}
 use Rattle.std.proofs.Math.Seq.{drop-nil, drop-append-add}
 use Rattle.std.proofs.lemmas.List.{append-nil, take_at, length-take}
@@ -21,9 +22,7 @@ size-laid bytes = ap (λ (l : List ℕ). length l) (seen-laid bytes) ∙ omega (
 
 pub counted-laid : (bytes : List ℕ) (file at room start count : ℕ) → file ≡ 0 → 41 ≤ at → start ≡ min (length bytes) (at - 41) → count ≡ min room (length bytes - start)
     → count ≡ min room (length (seen (laid bytes) file) - at)
-counted-laid bytes file at room start count is low start_is count_is =
-    let size : length (seen (laid bytes) file) ≡ 41 + length bytes = ap (λ (k : ℕ). length (seen (laid bytes) k)) is ∙ size-laid bytes in
-    omega (arith, size, low, start_is, count_is)
+counted-laid bytes file at room start count is low start_is count_is = grind (arith, common_steps, size-laid)
 
 drop-at : (s k : ℕ) (bytes : List ℕ) → s ≡ min (length bytes) k → drop s bytes ≡ drop k bytes
 drop-at zero zero bytes is = refl

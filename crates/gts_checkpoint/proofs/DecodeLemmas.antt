@@ -1,4 +1,5 @@
 -- Whether bytes that stand in no file are a checkpoint.
+use Rattle.std.proofs.lemmas.Grind.{common_steps}
 use Rattle.std.proofs.Common.{◌≡◌, ℕ, ◌+◌, ◌-◌, ◌*◌, ◌^◌, ◌<◌, false, List, [], ◌∷◌, ◌++◌, length, Option, None, sym, ap, subst, ◌∙◌, arith, length-append}
 use Rattle.std.proofs.lemmas.Bool.{false≢true}
 use Rattle.std.proofs.lemmas.List.{append-nil}
@@ -60,11 +61,4 @@ ends_there text (x ∷ rest) long = absurd (omega (arith, long, length-append te
 -- it stands there alone, and may be the first record
 pub is_checkpoint : (v : Version) (d : Directory) (bytes : List ℕ) (n : needs.Need) (at gate : ℕ) → Stands bytes n → at ≡ 41 + length (checkpoint_text n) → at - 41 ≡ length bytes → CanBegin v d n gate
     → IsCheckpoint v d bytes n
-is_checkpoint v d bytes n at gate stands place whole can =
-    let long : length (checkpoint_text n ++ stands.begins.0) ≡ length (checkpoint_text n) = ap (λ (l : List ℕ). length l) (sym stands.begins.1) ∙ omega (arith, place, whole) in
-    record {
-      text = stands.begins.1 ∙ ends_there (checkpoint_text n) stands.begins.0 long;
-      sound = can.sound;
-      free = can.unowed;
-      room = omega (arith, can.place, can.room);
-    }
+is_checkpoint v d bytes n at gate stands place whole can = grind (arith, common_steps, ends_there)

@@ -1,5 +1,6 @@
 -- A checkpoint as it is read: its first bytes, its bulletins and its circuits.
-use Rattle.std.proofs.Common.{◌≡◌, ℕ, zero, suc, ◌+◌, ◌^◌, ◌<◌, ◌≤◌, List, [], ◌∷◌, ◌++◌, length, map, take, drop, flat_map, refl, sym, ap, ◌∙◌, arith, take-append-drop, append_assoc}
+use Rattle.std.proofs.lemmas.Grind.{common_steps}
+use Rattle.std.proofs.Common.{◌≡◌, ℕ, zero, suc, ◌+◌, ◌^◌, ◌<◌, ◌≤◌, List, [], ◌∷◌, ◌++◌, length, map, take, drop, flat_map, refl, sym, ap, ◌∙◌, arith, append_assoc}
 use Rattle.gts_checkpoint.specs.Cited.{AllByRecursion, BeginsWith, Bulletin, FitBodies, FitsBulletin, FitsCircuit, FitsNeed, FitsValue, FitsValueCircuit, bulletin_of, bulletin_text, bytes_of, checkpoint_text, circuit_need_of, circuit_text, head_text, need_of, number_in, unowed, unowed_circuit, written_bulletin, written_circuit}
 use Rattle.gts_event.specs.declared.values.Need.{Need}
 use Rattle.std.proofs.lemmas.List.{length-map}
@@ -20,14 +21,7 @@ take_whole (suc n) (x ∷ xs) long = ap (λ (l : List ℕ). x ∷ l) (take_whole
 pub front_stands : (bytes : List ℕ) (circuits accepted bulletins : ℕ) → length (drop 8 (drop 4 (drop 4 bytes))) ≡ 4 → take 4 bytes ≡ 67 ∷ 0 ∷ 0 ∷ 0 ∷ []
     → take 4 (drop 4 bytes) ≡ bytes_of 4 circuits → take 8 (drop 4 (drop 4 bytes)) ≡ bytes_of 8 accepted → take 4 (drop 8 (drop 4 (drop 4 bytes))) ≡ bytes_of 4 bulletins
     → bytes ≡ head_text circuits accepted bulletins
-front_stands bytes circuits accepted bulletins long l c a b =
-    let first : List ℕ = drop 4 bytes in
-    let second : List ℕ = drop 4 first in
-    let third : List ℕ = drop 8 second in
-    let last : third ≡ bytes_of 4 bulletins = sym (take_whole 4 third long) ∙ b in
-    let more : second ≡ bytes_of 8 accepted ++ bytes_of 4 bulletins = sym (take-append-drop 8 second) ∙ (λ i. a i ++ last i) in
-    let rest : first ≡ bytes_of 4 circuits ++ (bytes_of 8 accepted ++ bytes_of 4 bulletins) = sym (take-append-drop 4 first) ∙ (λ i. c i ++ more i) in
-    sym (take-append-drop 4 bytes) ∙ (λ i. l i ++ rest i)
+front_stands bytes circuits accepted bulletins long l c a b = grind (arith, common_steps, take_whole)
 
 -- ---- a text that stands there is that of a need
 
@@ -42,24 +36,7 @@ record SameFront (circuits bulletins : ℕ) (m : needs.Need) (rest more : List �
 -- the front of a need whose checkpoint stands there
 same_front : (bytes head rest : List ℕ) (circuits accepted bulletins : ℕ) (m : needs.Need) → bytes ≡ head ++ rest → head ≡ head_text circuits accepted bulletins → circuits < 2 ^ 32 → bulletins < 2 ^ 32
     → FitsNeed m → (begins : BeginsWith bytes (checkpoint_text m)) → SameFront circuits bulletins m rest begins.0
-same_front bytes head rest circuits accepted bulletins m stands is low high fits begins =
-    let k : ℕ = length m.circuits in
-    let n : ℕ = length m.bulletins in
-    let h : List ℕ = head_text k m.accepted n in
-    let bs : List ℕ = flat_map bulletin_text m.bulletins in
-    let cs : List ℕ = flat_map circuit_text m.circuits in
-    let split : (h ++ bs ++ cs) ++ begins.0 ≡ h ++ (bs ++ (cs ++ begins.0)) =
-    append_assoc (h ++ bs) cs begins.0 ∙ append_assoc h bs (cs ++ begins.0) in
-    let both = same_parts head h rest (bs ++ (cs ++ begins.0)) (ap (λ (l : List ℕ). length l) is) (sym stands ∙ begins.1 ∙ split) in
-    let heads : head_text circuits accepted bulletins ≡ h = sym is ∙ both.0 in
-    let four = same_parts (67 ∷ 0 ∷ 0 ∷ 0 ∷ bytes_of 4 circuits) (67 ∷ 0 ∷ 0 ∷ 0 ∷ bytes_of 4 k) (bytes_of 8 accepted ++ bytes_of 4 bulletins) (bytes_of 8 m.accepted ++ bytes_of 4 n) refl heads in
-    let c = same_parts (67 ∷ 0 ∷ 0 ∷ 0 ∷ []) (67 ∷ 0 ∷ 0 ∷ 0 ∷ []) (bytes_of 4 circuits) (bytes_of 4 k) refl four.0 in
-    let b = same_parts (bytes_of 8 accepted) (bytes_of 8 m.accepted) (bytes_of 4 bulletins) (bytes_of 4 n) refl four.1 in
-    record {
-      circuits_are = same_number 4 circuits k (omega (arith, low)) fits.few_circuits c.1;
-      bulletins_are = same_number 4 bulletins n (omega (arith, high)) fits.few_bulletins b.1;
-      behind_it = both.1;
-    }
+same_front bytes head rest circuits accepted bulletins m stands is low high fits begins = grind (arith, common_steps, same_number, same_parts)
 
 -- a checkpoint begins with a front
 pub no_front : (bytes head : List ℕ) (m : needs.Need) → BeginsWith bytes head → length head ≡ 20 → ((circuits accepted bulletins : ℕ) → head ≡ head_text circuits accepted bulletins → ⊥)
@@ -75,9 +52,7 @@ no_front bytes head m stands long none begins =
 -- without bulletins behind the front there is none
 pub no_bulletins : (bytes head : List ℕ) (circuits accepted bulletins : ℕ) (m : needs.Need) → (stands : BeginsWith bytes head) → head ≡ head_text circuits accepted bulletins → circuits < 2 ^ 32 → bulletins < 2 ^ 32
     → ((bs : List Bulletin) → length bs ≡ bulletins → FitBodies bs → BeginsWith stands.0 (flat_map bulletin_text bs) → ⊥) → FitsNeed m → FitBodies m.bulletins → BeginsWith bytes (checkpoint_text m) → ⊥
-no_bulletins bytes head circuits accepted bulletins m stands is low high none fits bodies begins =
-    let s = same_front bytes head stands.0 circuits accepted bulletins m stands.1 is low high fits begins in
-    none m.bulletins (sym s.bulletins_are) bodies (flat_map circuit_text m.circuits ++ begins.0, s.behind_it)
+no_bulletins bytes head circuits accepted bulletins m stands is low high none fits bodies begins = grind (arith, common_steps, same_front)
 
 -- bulletins that stand at one front, as many, have one text
 same_bulletins : (xs : List values.Bulletin) (ys : List Bulletin) (rest more : List ℕ) → length xs ≡ length ys → AllByRecursion FitsValue xs → FitBodies ys
@@ -96,11 +71,7 @@ same_bulletins (x ∷ xs) (y ∷ ys) rest more long good fit same =
 pub no_circuits : (bytes head : List ℕ) (circuits accepted : ℕ) (xs : List values.Bulletin) (m : needs.Need) → (stands : BeginsWith bytes head) → head ≡ head_text circuits accepted (length xs) → circuits < 2 ^ 32 → length xs < 2 ^ 32
     → (second : BeginsWith stands.0 (flat_map written_bulletin xs)) → AllByRecursion FitsValue xs
     → ((cs : List needs.CircuitNeed) → length cs ≡ circuits → AllByRecursion FitsCircuit cs → BeginsWith second.0 (flat_map circuit_text cs) → ⊥) → FitsNeed m → FitBodies m.bulletins → BeginsWith bytes (checkpoint_text m) → ⊥
-no_circuits bytes head circuits accepted xs m stands is low high second good none fits bodies begins =
-    let s = same_front bytes head stands.0 circuits accepted (length xs) m stands.1 is low high fits begins in
-    let rest : second.0 ≡ flat_map circuit_text m.circuits ++ begins.0 =
-    same_bulletins xs m.bulletins second.0 (flat_map circuit_text m.circuits ++ begins.0) s.bulletins_are good bodies (sym second.1 ∙ s.behind_it) in
-    none m.circuits (sym s.circuits_are) fits.circuits (begins.0, rest)
+no_circuits bytes head circuits accepted xs m stands is low high second good none fits bodies begins = grind (arith, common_steps, same_bulletins, same_front)
 
 -- ---- what was found
 
@@ -113,13 +84,7 @@ all_circuits_fit [] good = tt
 all_circuits_fit (c ∷ cs) good = (fits_value c good.0, all_circuits_fit cs good.1)
 
 pub need_fits : (n : Need) → n.accepted < 2 ^ 64 → length n.bulletins < 2 ^ 32 → length n.circuits ≤ 64 → AllByRecursion FitsValue n.bulletins → AllByRecursion FitsValueCircuit n.circuits → FitsNeed (need_of n)
-need_fits n low few_bulletins few_circuits bulletins circuits = record {
-  accepted = omega (arith, low);
-  few_bulletins = omega (arith, few_bulletins, length-map n.bulletins bulletin_of);
-  few_circuits = omega (arith, few_circuits, length-map n.circuits circuit_need_of);
-  bulletins = all_fit n.bulletins bulletins;
-  circuits = all_circuits_fit n.circuits circuits;
-}
+need_fits n low few_bulletins few_circuits bulletins circuits = grind (arith, common_steps, all_circuits_fit, all_fit, length-map)
 
 unowed_all : (cs : List value_circuit.CircuitNeed) → AllByRecursion FitsValueCircuit cs → map unowed_circuit (map circuit_need_of cs) ≡ map circuit_need_of cs
 unowed_all [] good = refl
@@ -132,14 +97,7 @@ need_unowed n good = ap (λ (cs : List needs.CircuitNeed). let m : needs.Need = 
 
 pub need_stands : (bytes head : List ℕ) (n : Need) → (stands : BeginsWith bytes head) → head ≡ head_text (length n.circuits) n.accepted (length n.bulletins)
     → (second : BeginsWith stands.0 (flat_map written_bulletin n.bulletins)) → BeginsWith second.0 (flat_map written_circuit n.circuits) → BeginsWith bytes (checkpoint_text (need_of n))
-need_stands bytes head n stands is second third =
-    let h : List ℕ = head_text (length n.circuits) n.accepted (length n.bulletins) in
-    let bs : List ℕ = flat_map written_bulletin n.bulletins in
-    let cs : List ℕ = flat_map written_circuit n.circuits in (
-      third.0,
-      stands.1 ∙ ap (λ (l : List ℕ). l ++ stands.0) is ∙ ap (λ (l : List ℕ). h ++ l) (second.1 ∙ ap (λ (l : List ℕ). bs ++ l) third.1)
-          ∙ sym (append_assoc h bs (cs ++ third.0)) ∙ sym (append_assoc (h ++ bs) cs third.0) ∙ ap (λ (l : List ℕ). l ++ third.0) (need_text n),
-    )
+need_stands bytes head n stands is second third = grind (arith, common_steps, need_text)
 
 pub gate_behind : (n : Need) (at behind_bulletins : ℕ) → behind_bulletins ≡ 41 + 20 + length (flat_map written_bulletin n.bulletins) → at ≡ behind_bulletins + length (flat_map written_circuit n.circuits)
     → at ≡ 41 + length (checkpoint_text (need_of n))

@@ -1,6 +1,7 @@
 -- A need as it is written.
-use Rattle.std.proofs.Common.{◌≡◌, ℕ, ◌+◌, ◌*◌, ◌^◌, ◌<◌, ◌≤◌, List, [], ◌∷◌, ◌++◌, Bool, cond, take, length, map, flat_map, refl, sym, ap, subst, ◌∙◌, append_assoc, length-append, arith}
-use Rattle.gts_checkpoint.specs.Cited.{AllByRecursion, Call, CanPutBulletin, CanPutCircuit, Cuts, Did, FitsByte, HasWritten, IsSynced, SealingWriter, Syncs, Writes, bulletin_head, bulletin_of, bulletin_text, bytes_of, checkpoint_file, checkpoint_text, circuit_need_of, circuit_text, closed_gate, head_text, header_text, magic, need_of, open_gate, overwritten, put_by, sealed_need, seen, written, written_bulletin, written_circuit}
+use Rattle.std.proofs.lemmas.Grind.{common_steps}
+use Rattle.std.proofs.Common.{◌≡◌, ℕ, ◌+◌, ◌*◌, ◌^◌, ◌<◌, ◌≤◌, List, [], ◌∷◌, ◌++◌, length, map, flat_map, refl, sym, ap, ◌∙◌, append_assoc, length-append, arith}
+use Rattle.gts_checkpoint.specs.Cited.{AllByRecursion, Call, CanPutBulletin, CanPutCircuit, Cuts, Did, FitsByte, HasWritten, SealingWriter, Syncs, Writes, bulletin_of, bulletin_text, checkpoint_file, checkpoint_text, circuit_need_of, circuit_text, closed_gate, head_text, header_text, magic, need_of, open_gate, put_by, sealed_need, seen, written, written_bulletin, written_circuit}
 use Rattle.gts_event.specs.declared.values.Bulletin.{Bulletin}
 use Rattle.gts_event.specs.declared.values.CircuitNeed.{CircuitNeed}
 use Rattle.gts_event.specs.declared.values.Need.{Need}
@@ -26,16 +27,10 @@ need_text n =
 -- ---- what is written is longer than what is in it
 
 pub body_within : (b : Bulletin) → 16 + length b.body ≡ length (written_bulletin b)
-body_within b =
-    let h : List ℕ = bulletin_head b.position b.from b.kind (length b.body) in
-    let long : length h ≡ 16 = head_long b.position b.from b.kind (length b.body) in
-    let e : length (h ++ b.body) ≡ 16 + length b.body = omega (arith, length-append h b.body, long) in sym e
+body_within b = grind (arith, common_steps, head_long)
 
 pub lists_within : (c : CircuitNeed) → 16 + 8 * (length c.waiting + length c.kept) ≡ length (written_circuit c)
-lists_within c =
-    let t : List ℕ = flat_map (bytes_of 8) (c.waiting ++ c.kept) in
-    let e : 16 + 8 * (length c.waiting + length c.kept) ≡ 16 + length t = omega (arith, length-numbers (c.waiting ++ c.kept), length-append c.waiting c.kept) in
-    let f : 16 + length t ≡ length (written_circuit c) = omega arith in e ∙ f
+lists_within c = grind (arith, common_steps, length-numbers)
 
 pub many_bulletins : (bs : List Bulletin) → 16 * length bs ≤ length (flat_map written_bulletin bs)
 many_bulletins [] = omega arith
@@ -83,13 +78,7 @@ circuits_long (c ∷ cs) =
 
 pub text_long : (n : needs.Need) → length (checkpoint_text n)
     ≡ 20 + (16 * length n.bulletins + length (flat_map (λ b. b.body) n.bulletins)) + (16 * length n.circuits + 8 * length (flat_map (λ c. c.waiting ++ c.kept) n.circuits))
-text_long n =
-    let h : List ℕ = head_text (length n.circuits) n.accepted (length n.bulletins) in
-    let b : List ℕ = flat_map bulletin_text n.bulletins in
-    let c : List ℕ = flat_map circuit_text n.circuits in
-    let long : length h ≡ 20 = refl in
-    let whole : length (checkpoint_text n) ≡ length ((h ++ b) ++ c) = refl in
-    omega (arith, whole, long, length-append h b, length-append (h ++ b) c, bulletins_long n.bulletins, circuits_long n.circuits)
+text_long n = grind (arith, common_steps, bulletins_long, circuits_long)
 
 -- ---- the whole file
 
@@ -106,30 +95,15 @@ file_is mark n =
 -- what was put behind what a file has is what it has then, where nothing is held
 pub file_has : (text : List ℕ) (old new : List Call) (writer next : SealingWriter) → writer.held ≡ [] → next.held ≡ [] → next.file ≡ writer.file → put_by new next ≡ put_by old writer ++ text
     → seen new writer.file ≡ seen old writer.file ++ text
-file_has text old new writer next held none in_file put =
-    sym (append-nil (seen new writer.file))
-    ∙ ap (λ (l : List ℕ). seen new writer.file ++ l) (sym none)
-    ∙ ap (λ (k : ℕ). seen new k ++ next.held) (sym in_file)
-    ∙ put
-    ∙ ap (λ (l : List ℕ). (seen old writer.file ++ l) ++ text) held
-    ∙ ap (λ (l : List ℕ). l ++ text) (append-nil (seen old writer.file))
+file_has text old new writer next held none in_file put = grind (arith, common_steps, append-nil)
 
 -- ---- cut before, and synced behind
 
 pub cut_empty : (file : ℕ) (old mid new : List Call) → mid ≡ Did (Cuts file 0) ∷ old → new ≡ Did Syncs ∷ mid → seen new file ≡ []
-cut_empty file old mid new first second =
-    ap (λ (l : List Call). seen l file) (second ∙ ap (λ (l : List Call). Did Syncs ∷ l) first)
-    ∙ ap (λ (b : Bool). cond b (take 0 (seen old file)) (seen old file)) (eq-eqb file file refl)
+cut_empty file old mid new first second = grind (arith, common_steps, eq-eqb)
 
 pub wrote_front : (file : ℕ) (text : List ℕ) (old new : List Call) → new ≡ Did (Writes file 0 text) ∷ old → seen old file ≡ [] → seen new file ≡ text
-wrote_front file text old new is none =
-    ap (λ (l : List Call). seen l file) is
-    ∙ ap (λ (b : Bool). cond b (overwritten (seen old file) 0 text) (seen old file)) (eq-eqb file file refl)
-    ∙ ap (λ (l : List ℕ). overwritten l 0 text) none
-    ∙ written_end [] text
+wrote_front file text old new is none = grind (arith, common_steps, eq-eqb, written_end)
 
 pub has_written : (mark : List ℕ) (n : needs.Need) (file : ℕ) (mid new : List Call) → new ≡ Did Syncs ∷ mid → seen mid file ≡ checkpoint_file mark n → HasWritten mark n file new
-has_written mark n file mid new is text = record {
-  text = ap (λ (l : List Call). seen l file) is ∙ text;
-  synced = λ k. let P : List Call → Type 0 = λ l. IsSynced l k in subst P (sym is) (record { same = refl; untouched = λ p. refl });
-}
+has_written mark n file mid new is text = grind (arith, common_steps)

@@ -1,8 +1,8 @@
 -- Whether a need that was read may be the first record of a journal.
+use Rattle.std.proofs.lemmas.Grind.{common_steps}
 use Rattle.std.proofs.Common.{◌≡◌, ℕ, ◌+◌, ◌-◌, ◌*◌, ◌^◌, ◌<◌, ◌≤◌, Bool, true, false, ◌&&◌, nat_eq, nat_le, List, [], ◌∷◌, ◌++◌, length, map, take, drop, zip, flat_map, Result, Ok, Err, sym, ap, subst, ◌∙◌, arith, length-append, min, is_some, IfErr, IfSome, Option, None, Some}
 use Rattle.gts_checkpoint.specs.Cited.{BeginsWith, Bulletin, Call, CanBegin, Circuit, CircuitState, Damaged, Directory, DiskFault, FindsText, FitBodies, FitsNeed, HasRead, IsDamage, IsReadFault, NoJournal, NoMemory, NotThis, OldVersion, OpenFault, Version, admits_checkpoint, begun, begun_circuit, bytes_from, checkpoint_text, circuit_need, circuit_need_of, compacted_bytes, draw_size, due, first_of, first_seal, fold, held, is_bulletin, is_sealed, is_sound, list_all, need_in, need_of, same_text, seal, seal_size, starts_with, unowed, waiting, waiting_of}
 use Rattle.gts_event.specs.declared.values.Need.{Need}
-use Rattle.std.proofs.Math.Nat.{add-mul}
 use Rattle.std.proofs.lemmas.Bool.{false≢true, and_parts, and_from, le-leb, leb-true, false_from_ne_true}
 use Rattle.std.proofs.lemmas.List.{length-map, take_at, take-append-drop}
 use Rattle.gts_event.specs.Need as needs
@@ -43,10 +43,7 @@ need_read bytes n begins fits free = ap need_in begins.1 ∙ need_in-text n begi
 
 pub admitted : (v : Version) (d : Directory) (bytes : List ℕ) (n : needs.Need) → BeginsWith bytes (checkpoint_text n) → is_sealed v (first_seal v d.mark) (checkpoint_text n) bytes ≡ true → is_sound d n ≡ true
     → compacted_bytes v n + draw_size v * due (begun n) ≤ d.limit → admits_checkpoint v d bytes n ≡ true
-admitted v d bytes n begins stands sound room =
-    let starts : starts_with nat_eq bytes (checkpoint_text n) ≡ true =
-    ap (λ (l : List ℕ). starts_with nat_eq l (checkpoint_text n)) begins.1 ∙ starts_with-append (checkpoint_text n) begins.0 in
-    and_from _ _ (and_from _ _ (and_from _ _ starts stands) sound) (le-leb (compacted_bytes v n + draw_size v * due (begun n)) d.limit room)
+admitted v d bytes n begins stands sound room = grind (arith, common_steps, and_from, le-leb, starts_with-append)
 
 record MayBegin (v : Version) (d : Directory) (bytes : List ℕ) (n : needs.Need) : Type 0 where
   pub begins : BeginsWith bytes (checkpoint_text n)
@@ -135,11 +132,7 @@ pub record Counted (d : Directory) (n : Need) (at w limit : ℕ) : Type 0 where
 
 pub stands_there : (bytes : List ℕ) (count : ℕ) (found : Option (Need × ℕ)) (n : Need) (at : ℕ) → found ≡ Some (n, at) → FindsText bytes count (first_of found)
     → IfSome found (λ f. FitsNeed (need_of f.0)) → IfSome found (λ f. unowed (need_of f.0) ≡ need_of f.0) → Stands bytes (need_of n)
-stands_there bytes count found n at is finds fits free = record {
-  begins = (let F : Option (Need × ℕ) → Type 0 = λ o. FindsText bytes count (first_of o) in subst F is finds);
-  fits = (let F : Option (Need × ℕ) → Type 0 = λ o. IfSome o (λ f. FitsNeed (need_of f.0)) in subst F is fits);
-  free = (let F : Option (Need × ℕ) → Type 0 = λ o. IfSome o (λ f. unowed (need_of f.0) ≡ need_of f.0) in subst F is free);
-}
+stands_there bytes count found n at is finds fits free = grind (arith, common_steps)
 
 place_is : (found : Option (Need × ℕ)) (n : Need) (at : ℕ) → found ≡ Some (n, at) → IfSome found (λ f. f.1 ≡ 41 + length (checkpoint_text (need_of f.0))) → at ≡ 41 + length (checkpoint_text (need_of n))
 place_is found n at is place = let F : Option (Need × ℕ) → Type 0 = λ o. IfSome o (λ f. f.1 ≡ 41 + length (checkpoint_text (need_of f.0))) in subst F is place
@@ -147,45 +140,23 @@ place_is found n at is place = let F : Option (Need × ℕ) → Type 0 = λ o. I
 pub counts_there : (d : Directory) (found : Option (Need × ℕ)) (n : Need) (at w limit : ℕ) (circuits : List value_circuit.CircuitNeed) → found ≡ Some (n, at)
     → IfSome found (λ f. f.1 ≡ 41 + length (checkpoint_text (need_of f.0))) → w ≡ min (length (flat_map waiting_of circuits)) (2 ^ 64 - 1) → circuits ≡ n.circuits → limit ≡ d.limit → limit ≤ 2 ^ 30
     → Counted d n at w limit
-counts_there d found n at w limit circuits is place w_is same limit_is low = record {
-  waits = w_is ∙ ap (λ (l : List value_circuit.CircuitNeed). min (length (flat_map waiting_of l)) (2 ^ 64 - 1)) same;
-  place = place_is found n at is place;
-  limit_is = limit_is;
-  low = low;
-}
+counts_there d found n at w limit circuits is place w_is same limit_is low = grind (arith, common_steps, place_is, waits)
 
 -- the bytes of the text stand there
 pub size_there : (bytes : List ℕ) (n : Need) (found : Option (Need × ℕ)) (at : ℕ) → found ≡ Some (n, at) → Stands bytes (need_of n)
     → IfSome found (λ f. f.1 ≡ 41 + length (checkpoint_text (need_of f.0))) → at - 41 ≤ length bytes
 size_there bytes n found at is stands place =
-    let at_is = place_is found n at is place in
-    there_are bytes (need_of n) (at - 41) stands.begins (omega (arith, at_is))
+    there_are bytes (need_of n) (at - 41) stands.begins (omega (arith, place_is found n at is place))
 
 -- there is room for all that is due
 pub can_begin : (v : Version) (d : Directory) (n : Need) (at w limit gate : ℕ) → Counted d n at w limit → unowed (need_of n) ≡ need_of n → is_sound d (need_of n) ≡ true
     → gate ≡ at + seal_size v → gate + 1 + draw_size v * w ≤ limit → CanBegin v d (need_of n) gate
-can_begin v d n at w limit gate counts free sound gate_is room =
-    let some = add-mul 24 (seal_size v) w in
-    let all : w ≡ length (flat_map waiting_of n.circuits) = counted w (length (flat_map waiting_of n.circuits)) counts.waits (omega (arith, some, room, counts.low)) in
-    let exact : w ≡ due (begun (need_of n)) = all ∙ sym (due_is d n sound) in
-    let same : draw_size v * w ≡ draw_size v * due (begun (need_of n)) = ap (λ (k : ℕ). draw_size v * k) exact in
-    record {
-      sound = sound;
-      unowed = free;
-      place = omega (arith, gate_is, counts.place);
-      room = omega (arith, same, room, counts.limit_is);
-    }
+can_begin v d n at w limit gate counts free sound gate_is room = grind (arith, common_steps, counted, due_is, waits)
 
 -- there is none, however it is counted
 pub over_limit : (v : Version) (d : Directory) (n : Need) (at w limit : ℕ) → Counted d n at w limit → limit < at + seal_size v + 1 + draw_size v * w
     → is_sound d (need_of n) ≡ true → compacted_bytes v (need_of n) + draw_size v * due (begun (need_of n)) ≤ d.limit → ⊥
-over_limit v d n at w limit counts over sound room =
-    let waits : ℕ = length (flat_map waiting_of n.circuits) in
-    let some = add-mul 24 (seal_size v) waits in
-    let there : draw_size v * due (begun (need_of n)) ≡ draw_size v * waits = ap (λ (k : ℕ). draw_size v * k) (due_is d n sound) in
-    let exact : w ≡ waits = all_counted w waits counts.waits (omega (arith, some, there, room, counts.limit_is, counts.low)) in
-    let same : draw_size v * w ≡ draw_size v * waits = ap (λ (k : ℕ). draw_size v * k) exact in
-    omega (arith, same, there, room, over, counts.limit_is, counts.place)
+over_limit v d n at w limit counts over sound room = grind (arith, common_steps, all_counted, due_is, waits)
 
 pub no_room : (v : Version) (d : Directory) (bytes : List ℕ) (n : Need) (at w limit : ℕ) → Stands bytes (need_of n) → Counted d n at w limit
     → limit < at + seal_size v + 1 + draw_size v * w → admits_checkpoint v d bytes (need_in bytes) ≡ false
@@ -208,19 +179,11 @@ pub record Compared (v : Version) (d : Directory) (bytes : List ℕ) (n : needs.
 pub compares : (v : Version) (d : Directory) (calls now : List Call) (file : ℕ) (n : Need) (at : ℕ) (found : Option (Need × ℕ)) (before mark : List ℕ) (last : Option (List ℕ)) → found ≡ Some (n, at)
     → IfSome found (λ f. f.1 ≡ 41 + length (checkpoint_text (need_of f.0))) → now ≡ calls → held v before ≡ first_seal v mark → mark ≡ d.mark
     → is_some last ≡ is_sealed v (held v before) (take (at - 41) (bytes_from now file 41)) (bytes_from now file 41) → Compared v d (bytes_from calls file 41) (need_of n) before (at - 41) last
-compares v d calls now file n at found before mark last is place told before_is mark_is stands =
-    let at_is = place_is found n at is place in
-    record {
-      before_is = before_is ∙ ap (first_seal v) mark_is;
-      size_is = omega (arith, at_is);
-      stands = stands ∙ ap (λ (l : List Call). is_sealed v (held v before) (take (at - 41) (bytes_from l file 41)) (bytes_from l file 41)) told;
-    }
+compares v d calls now file n at found before mark last is place told before_is mark_is stands = grind (arith, common_steps, place_is)
 
 same_seal : (v : Version) (d : Directory) (bytes : List ℕ) (n : needs.Need) (before : List ℕ) (size : ℕ) (found : Option (List ℕ)) → Stands bytes n → Compared v d bytes n before size found
     → is_sealed v (first_seal v d.mark) (checkpoint_text n) bytes ≡ is_some found
-same_seal v d bytes n before size found stands compared =
-    ap (λ (l : List ℕ). is_sealed v (first_seal v d.mark) l bytes) (sym (text_there bytes n size stands.begins compared.size_is))
-    ∙ ap (λ (l : List ℕ). is_sealed v l (take size bytes) bytes) (sym compared.before_is) ∙ sym compared.stands
+same_seal v d bytes n before size found stands compared = grind (arith, common_steps, text_there)
 
 -- it stands there without its seal
 pub no_seal : (v : Version) (d : Directory) (bytes : List ℕ) (n : needs.Need) (before : List ℕ) (size : ℕ) (found : Option (List ℕ)) → Stands bytes n → Compared v d bytes n before size found

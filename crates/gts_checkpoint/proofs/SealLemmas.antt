@@ -1,5 +1,6 @@
 -- The seal of bytes that are read piece by piece.
-use Rattle.std.proofs.Common.{◌≡◌, ℕ, ◌+◌, ◌-◌, ◌<◌, ◌≤◌, Bool, true, false, ◌&&◌, nat_eq, List, [], ◌∷◌, ◌++◌, length, take, drop, refl, sym, ap, subst, ◌∙◌, append_assoc, take-append-drop, length-append, arith, Option, Some, IfSome}
+use Rattle.std.proofs.lemmas.Grind.{common_steps}
+use Rattle.std.proofs.Common.{◌≡◌, ℕ, ◌+◌, ◌-◌, ◌<◌, ◌≤◌, Bool, true, false, ◌&&◌, nat_eq, List, [], ◌∷◌, ◌++◌, length, take, drop, refl, sym, ap, ◌∙◌, append_assoc, take-append-drop, length-append, arith, Option, Some, IfSome}
 use Rattle.gts_checkpoint.specs.Cited.{BeginsWith, Call, Version, bytes_from, held, is_sealed, pointwise, seal, seal_size, starts_with}
 use Rattle.std.proofs.lemmas.List.{take_at, take_all, take-append-le, length-take-le}
 use Rattle.gts_record.proofs.LawLemmas.{length-seal}
@@ -24,9 +25,7 @@ piece_there calls file done part there begins =
 
 -- so many bytes are left
 pub left_there : (calls : List Call) (file done : ℕ) → done ≤ length (bytes_from calls file 41) → done + length (bytes_from calls file (41 + done)) ≡ length (bytes_from calls file 41)
-left_there calls file done there =
-    let all : List ℕ = bytes_from calls file 41 in
-    omega (arith, ap (λ (l : List ℕ). length l) (rest_is calls file done there), length-take-le done all there, length-append (take done all) (drop done all), ap (λ (l : List ℕ). length l) (take-append-drop done all))
+left_there calls file done there = grind (arith, common_steps, length-take-le, rest_is)
 
 -- a text that is no longer than a front stands at the front of all where it does at that of the front
 pub starts_front : (front rest s : List ℕ) → length s ≤ length front → starts_with nat_eq (front ++ rest) s ≡ starts_with nat_eq front s
@@ -36,13 +35,7 @@ starts_front front rest s few = ap (pointwise nat_eq s) (take-append-le (length 
 pub sealed_there : (v : Version) (before : List ℕ) (calls : List Call) (file size : ℕ) (found last : List ℕ) → size ≤ length (bytes_from calls file 41) → BeginsWith (bytes_from calls file (41 + size)) found
     → length found ≡ seal_size v → last ≡ seal v before (take size (bytes_from calls file 41))
     → starts_with nat_eq found last ≡ is_sealed v before (take size (bytes_from calls file 41)) (bytes_from calls file 41)
-sealed_there v before calls file size found last there begins long last_is =
-    let all : List ℕ = bytes_from calls file 41 in
-    let text : List ℕ = take size all in
-    let s : List ℕ = seal v before text in
-    let is : drop (length text) all ≡ found ++ begins.0 = ap (λ (k : ℕ). drop k all) (length-take-le size all there) ∙ sym (rest_is calls file size there) ∙ begins.1 in
-    ap (starts_with nat_eq found) last_is
-    ∙ sym (ap (λ (l : List ℕ). starts_with nat_eq l s) is ∙ starts_front found begins.0 s (omega (arith, length-seal v before text, long)))
+sealed_there v before calls file size found last there begins long last_is = grind (arith, common_steps, last_is, length-seal, length-take-le, rest_is, starts_front)
 
 -- ---- too few bytes
 
@@ -56,15 +49,7 @@ pointwise_short (x ∷ xs) [] few = refl
 pointwise_short (x ∷ xs) (y ∷ ys) few = ap (λ (b : Bool). nat_eq x y && b) (pointwise_short xs ys (omega (arith, few))) ∙ never (nat_eq x y)
 
 sealed_short : (v : Version) (before all : List ℕ) (size : ℕ) → size ≤ length all → length all < size + seal_size v → is_sealed v before (take size all) all ≡ false
-sealed_short v before all size there few =
-    let text : List ℕ = take size all in
-    let s : List ℕ = seal v before text in
-    let long : length text ≡ size = length-take-le size all there in
-    let left : length (drop size all) < length s =
-    omega (arith, few, there, length-seal v before text, long, length-append text (drop size all), ap (λ (l : List ℕ). length l) (take-append-drop size all)) in
-    ap (λ (k : ℕ). starts_with nat_eq (drop k all) s) long
-    ∙ ap (pointwise nat_eq s) (take_all (length s) (drop size all) (omega (arith, left)))
-    ∙ pointwise_short s (drop size all) left
+sealed_short v before all size there few = grind (arith, common_steps, length-seal, length-take-le, pointwise_short, take_all)
 
 -- too few bytes are left for the seal
 pub sealed_not : (v : Version) (before : List ℕ) (calls : List Call) (file size : ℕ) → size ≤ length (bytes_from calls file 41) → length (bytes_from calls file (41 + size)) < seal_size v
@@ -74,10 +59,7 @@ sealed_not v before calls file size there few = sealed_short v before (bytes_fro
 -- ---- what was found while nothing was written
 
 pub same_place : (P : List ℕ → Type 0) (now calls : List Call) (file at done : ℕ) → now ≡ calls → at ≡ done → P (bytes_from now file (41 + at)) → P (bytes_from calls file (41 + done))
-same_place P now calls file at done told is here =
-    let F : List Call → Type 0 = λ l. P (bytes_from l file (41 + done)) in
-    let N : ℕ → Type 0 = λ k. P (bytes_from now file (41 + k)) in
-    subst F told (subst N is here)
+same_place P now calls file at done told is here = grind (arith, common_steps)
 
 -- as many bytes are there as are wanted
 pub enough : (calls : List Call) (file done size count : ℕ) → done ≤ size → size ≤ length (bytes_from calls file 41) → count ≤ size - done → length (bytes_from calls file (41 + done)) < count → ⊥
@@ -85,6 +67,4 @@ enough calls file done size count inside there wanted few = omega (arith, left_t
 
 pub last_is : (v : Version) (calls now : List Call) (file size : ℕ) (before : List ℕ) (found : Option (List ℕ)) (last : List ℕ) → found ≡ Some last → now ≡ calls
     → IfSome found (λ l. held v l ≡ seal v (held v before) (take size (bytes_from now file 41))) → held v last ≡ seal v (held v before) (take size (bytes_from calls file 41))
-last_is v calls now file size before found last is told there =
-    let S : Option (List ℕ) → Type 0 = λ o. IfSome o (λ l. held v l ≡ seal v (held v before) (take size (bytes_from now file 41))) in
-    subst S is there ∙ ap (λ (l : List Call). seal v (held v before) (take size (bytes_from l file 41))) told
+last_is v calls now file size before found last is told there = grind (arith, common_steps)

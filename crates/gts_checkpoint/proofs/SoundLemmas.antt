@@ -1,4 +1,5 @@
 -- Numbers that differ, what is held on circuits, and the parts of soundness.
+use Rattle.std.proofs.lemmas.Grind.{common_steps}
 use Rattle.std.proofs.Common.{◌≡◌, ◌≢◌, ℕ, zero, suc, ◌+◌, ◌-◌, ◌<◌, ◌≤◌, Bool, true, false, not, ◌&&◌, ◌==◌, ◌⊎◌, inl, inr, nat_lt, nat_le, List, [], ◌∷◌, ◌++◌, length, get_or, map, filter, zip, slice_get, Some, None, Result, Ok, Err, refl, sym, ap, ◌∙◌, arith}
 use Rattle.gts_checkpoint.specs.Cited.{Circuit, CircuitNeed, Directory, IfOk, IsNonDecreasing, IsPermutation, Need, are_circuits_sound, ascends, circuit_need_of, has, has_counts, has_positions, is_circuit_sound, is_distinct, is_held, is_kept, is_needed, is_recent, is_there, list_all, most_owed, need_of}
 use Rattle.std.proofs.Math.Bool.{and-false, and-true}
@@ -150,10 +151,7 @@ positions-agree f g waiting kept h = rw (all-agree f g (waiting ++ kept) h) refl
 pub circuit-is : (n : Need) (kept : ℕ) (c : CircuitNeed) → has_counts n.accepted kept c ≡ true
     → (nat_le (length c.owed) most_owed && list_all (is_kept c) c.owed) ≡ true
     → is_circuit_sound n kept c ≡ has_positions (is_there n.bulletins) c.waiting c.kept
-circuit-is n kept c counts owes =
-    regrouped (has_counts n.accepted kept c) (ascends c.waiting) (is_distinct c.kept) (list_all (λ position. not (has c.kept position)) c.waiting)
-    (list_all (is_there n.bulletins) (c.waiting ++ c.kept)) (nat_le (length c.owed) most_owed) (list_all (is_kept c) c.owed)
-    ∙ rw (counts, owes) refl
+circuit-is n kept c counts owes = grind (arith, common_steps, regrouped)
 
 -- ---- what is needed
 
@@ -168,11 +166,7 @@ needed-not d count cs position first e l h = rw (recent-not d count position fir
 
 pub kept-is : (draws kept first index : ℕ) → first ≡ draws - kept
     → (nat_le first index && nat_lt index draws) ≡ (nat_le draws (index + kept) && nat_lt index draws)
-kept-is draws kept first index e =
-    ap (λ (b : Bool). b && nat_lt index draws)
-    (same-tests (nat_le first index) (nat_le draws (index + kept))
-    (λ h. let le : first ≤ index = leb-true first index h in le-leb draws (index + kept) (omega arith))
-    (λ h. let le : draws ≤ index + kept = leb-true draws (index + kept) h in le-leb first index (omega arith)))
+kept-is draws kept first index e = grind (arith, common_steps, le-leb, leb-true, same-tests)
 
 -- ---- each circuit beside its row
 

@@ -2,7 +2,7 @@
 ghost use Rattle.std.specs.Prelude.{◌≡◌, false, IsErr};
 ghost use Rattle.gts_checkpoint.specs.Cited.{HasCause, laid, laid_is_possible};
 
-use gts_traits::{Failed, JournalFile, Station};
+use gts_traits::{Channel, Failed, JournalFile, Station};
 
 /// How many bytes of a file are in front of its first record: the header and a gate.
 const IN_FRONT: u64 = 41;
@@ -76,7 +76,7 @@ impl Station for CheckpointBytes<'_> {
         refuse(&mut self.disk_faults)
     }
 
-    fn say(&mut self, _channel: u32, _bytes: &[u8]) -> Result<(), Failed> {
+    fn say(&mut self, _channel: Channel, _bytes: &[u8]) -> Result<(), Failed> {
         refuse(&mut self.say_faults)
     }
 

@@ -1,6 +1,6 @@
 //! The pieces of a checkpoint, read from a place of a file on.
-ghost use Rattle.std.specs.Prelude.{◌≡◌, ◌+◌, ◌*◌, ◌^◌, ◌<◌, ◌≤◌, true, false, length, IfOk, IfErr, IfSome, IfNone, IsSome, Ok, IsErrOf, vec_len, OnOk};
-ghost use Rattle.gts_checkpoint.specs.Cited.{ArePlaces, BeginsWith, FindsBulletin, FindsBytes, FindsCircuit, FindsNumbers, FitsValueCircuit, HasCause, IsNoHead, IsReadFault, LONGEST_BODY as longest_body, Rose, bulletin_head, bytes_from, circuit_head};
+ghost use Rattle.std.specs.Prelude.{◌≡◌, ◌+◌, ◌*◌, ◌^◌, ◌<◌, ◌≤◌, true, false, length, IfOk, IfErr, IfSome, IfNone, IsSome, Ok, vec_len};
+ghost use Rattle.gts_checkpoint.specs.Cited.{ArePlaces, BeginsWith, FindsBulletin, FindsBytes, FindsCircuit, FindsNumbers, FitsValueCircuit, IsNoHead, IsReadFault, LONGEST_BODY as longest_body, LooksAt, LooksAtOf, bulletin_head, bytes_from, circuit_head};
 
 use gts_alphabet::LONGEST_BODY;
 use gts_event::{Bulletin, Bytes, CircuitNeed, Items, Places};
@@ -20,10 +20,7 @@ pub(crate) fn fetch<P: Station>(
         → BeginsWith (bytes_from (P.calls station.old) file at) into.new }
     ensures short { P.observed → result ≡ Ok false
         → length (bytes_from (P.calls station.old) file at) < length into.old }
-    ensures told { P.observed → P.calls station.new ≡ P.calls station.old }
-    ensures cause { HasCause result (P.disk_faults station.old) (P.disk_faults station.new) }
-    ensures sound { OnOk result (P.disk_faults station.new ≡ P.disk_faults station.old) }
-    ensures say { P.say_faults station.new ≡ P.say_faults station.old }
+    ensures looks { LooksAt P.Station result station.old station.new }
 {
     let count = station.read(file, at, into)?;
     Ok(count == into.len())
@@ -83,13 +80,8 @@ pub(crate) fn body_at<P: Station>(
     ensures found { P.observed → IfOk result
         (FindsBytes (bytes_from (P.calls station.old) file at) size) }
     ensures size { IfOk result (λ found. IfSome found (λ body. length body ≡ size)) }
-    ensures told { P.observed → P.calls station.new ≡ P.calls station.old }
+    ensures looks { LooksAtOf P.Station OpenFault.DiskFault result station.old station.new }
     ensures kind { IfErr result IsReadFault }
-    ensures disk_fault { IsErrOf result OpenFault.DiskFault
-        → Rose (P.disk_faults station.old) (P.disk_faults station.new) }
-    ensures later { P.disk_faults station.old ≤ P.disk_faults station.new }
-    ensures sound { OnOk result (P.disk_faults station.new ≡ P.disk_faults station.old) }
-    ensures say { P.say_faults station.new ≡ P.say_faults station.old }
 {
     let mut body = zeros(alloc, size as usize)?;
     if fetch(station, file, at, &mut body)? {
@@ -111,13 +103,8 @@ pub(crate) fn bulletin_at<P: Station>(
         (FindsBulletin (bytes_from (P.calls station.old) file at)) }
     ensures short { IfOk result (λ found. IfSome found (λ b. (b.position < 2 ^ 64)
         × (length b.body ≤ longest_body))) }
-    ensures told { P.observed → P.calls station.new ≡ P.calls station.old }
+    ensures looks { LooksAtOf P.Station OpenFault.DiskFault result station.old station.new }
     ensures kind { IfErr result IsReadFault }
-    ensures disk_fault { IsErrOf result OpenFault.DiskFault
-        → Rose (P.disk_faults station.old) (P.disk_faults station.new) }
-    ensures later { P.disk_faults station.old ≤ P.disk_faults station.new }
-    ensures sound { OnOk result (P.disk_faults station.new ≡ P.disk_faults station.old) }
-    ensures say { P.say_faults station.new ≡ P.say_faults station.old }
 {
     let mut bytes = [0u8; 16];
     if !fetch(station, file, at, &mut bytes)? {
@@ -150,13 +137,8 @@ fn positions_at<P: Station>(
         (FindsNumbers (bytes_from (P.calls station.old) file at) count) }
     ensures size { IfOk result (λ found. IfSome found (λ ps. length ps ≡ count)) }
     ensures fits { IfOk result (λ found. IfSome found ArePlaces) }
-    ensures told { P.observed → P.calls station.new ≡ P.calls station.old }
+    ensures looks { LooksAtOf P.Station OpenFault.DiskFault result station.old station.new }
     ensures kind { IfErr result IsReadFault }
-    ensures disk_fault { IsErrOf result OpenFault.DiskFault
-        → Rose (P.disk_faults station.old) (P.disk_faults station.new) }
-    ensures later { P.disk_faults station.old ≤ P.disk_faults station.new }
-    ensures sound { OnOk result (P.disk_faults station.new ≡ P.disk_faults station.old) }
-    ensures say { P.say_faults station.new ≡ P.say_faults station.old }
 {
     let mut places = Places::new();
     for i in 0..count {
@@ -204,13 +186,8 @@ pub(crate) fn circuit_at<P: Station>(
     ensures found { P.observed → IfOk result
         (FindsCircuit (bytes_from (P.calls station.old) file at)) }
     ensures fits { IfOk result (λ found. IfSome found FitsValueCircuit) }
-    ensures told { P.observed → P.calls station.new ≡ P.calls station.old }
+    ensures looks { LooksAtOf P.Station OpenFault.DiskFault result station.old station.new }
     ensures kind { IfErr result IsReadFault }
-    ensures disk_fault { IsErrOf result OpenFault.DiskFault
-        → Rose (P.disk_faults station.old) (P.disk_faults station.new) }
-    ensures later { P.disk_faults station.old ≤ P.disk_faults station.new }
-    ensures sound { OnOk result (P.disk_faults station.new ≡ P.disk_faults station.old) }
-    ensures say { P.say_faults station.new ≡ P.say_faults station.old }
 {
     let mut bytes = [0u8; 16];
     if !fetch(station, file, at, &mut bytes)? {

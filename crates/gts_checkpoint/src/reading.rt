@@ -1,5 +1,5 @@
-ghost use Rattle.std.specs.Prelude.{◌≡◌, ◌+◌, ◌-◌, ◌*◌, ◌<◌, ◌≤◌, ◌^◌, length, take, flat_map, is_some, min, IsSome, IfOk, IfErr, IfSome, IfNone, IsErrOf, OnOk};
-ghost use Rattle.gts_checkpoint.specs.Cited.{CanBegin, FindsText, FitsNeed, HasCause, HasRead, IsDamage, IsNoFront, IsReadFault, Rose, bytes_from, checkpoint_text, draw_size, first_of, head_text, held, is_sealed_front, seal, seal_size, unowed, waiting_of};
+ghost use Rattle.std.specs.Prelude.{◌≡◌, ◌+◌, ◌-◌, ◌*◌, ◌<◌, ◌≤◌, ◌^◌, length, take, flat_map, is_some, min, IsSome, IfOk, IfErr, IfSome, IfNone};
+ghost use Rattle.gts_checkpoint.specs.Cited.{CanBegin, FindsText, FitsNeed, HasRead, IsDamage, IsNoFront, IsReadFault, LooksAt, LooksAtOf, bytes_from, checkpoint_text, draw_size, first_of, head_text, held, is_sealed_front, seal, seal_size, unowed, waiting_of};
 ghost use Rattle.gts_event.specs.Items as items;
 
 use crate::lists::{bulletins_at, circuits_at};
@@ -62,13 +62,8 @@ pub(crate) fn need_at<P: Station>(
         (λ n. unowed (items.need_of n.0) ≡ items.need_of n.0)) }
     ensures place { IfOk result (λ found. IfSome found
         (λ n. n.1 ≡ 41 + length (checkpoint_text (items.need_of n.0)))) }
-    ensures told { P.observed → P.calls station.new ≡ P.calls station.old }
+    ensures looks { LooksAtOf P.Station OpenFault.DiskFault result station.old station.new }
     ensures kind { IfErr result IsReadFault }
-    ensures disk_fault { IsErrOf result OpenFault.DiskFault
-        → Rose (P.disk_faults station.old) (P.disk_faults station.new) }
-    ensures later { P.disk_faults station.old ≤ P.disk_faults station.new }
-    ensures sound { OnOk result (P.disk_faults station.new ≡ P.disk_faults station.old) }
-    ensures say { P.say_faults station.new ≡ P.say_faults station.old }
 {
     let mut bytes = [0u8; 20];
     if !fetch(station, file, FIRST_RECORD, &mut bytes)? {
@@ -140,10 +135,7 @@ fn seal_of<P: Station>(
         ≡ seal version (held version before.now)
         (take size (bytes_from (P.calls station.old) file 41)))) }
     ensures some { P.observed → IfOk result (λ found. IsSome found) }
-    ensures told { P.observed → P.calls station.new ≡ P.calls station.old }
-    ensures cause { HasCause result (P.disk_faults station.old) (P.disk_faults station.new) }
-    ensures sound { OnOk result (P.disk_faults station.new ≡ P.disk_faults station.old) }
-    ensures say { P.say_faults station.new ≡ P.say_faults station.old }
+    ensures looks { LooksAt P.Station result station.old station.new }
 {
     let mut sealer = Sealer::new(version, before);
     let mut piece = [0u8; PIECE];
@@ -176,13 +168,8 @@ fn seal_at<P: Station>(
     ensures stands { P.observed → IfOk result (λ found. is_some found
         ≡ is_sealed_front version (held version before.now)
         (bytes_from (P.calls station.old) file 41) size) }
-    ensures told { P.observed → P.calls station.new ≡ P.calls station.old }
+    ensures looks { LooksAtOf P.Station OpenFault.DiskFault result station.old station.new }
     ensures kind { IfErr result IsReadFault }
-    ensures disk_fault { IsErrOf result OpenFault.DiskFault
-        → Rose (P.disk_faults station.old) (P.disk_faults station.new) }
-    ensures later { P.disk_faults station.old ≤ P.disk_faults station.new }
-    ensures sound { OnOk result (P.disk_faults station.new ≡ P.disk_faults station.old) }
-    ensures say { P.say_faults station.new ≡ P.say_faults station.old }
 {
     let Some(seal) = seal_of(station, version, before, file, size)? else {
         return Ok(None);
@@ -217,12 +204,7 @@ pub fn read<P: Station>(
     // Damage is answered exactly where no checkpoint stands there with its seal that may be the first record.
     ensures fault { P.observed → IfErr result (IsDamage version directory.now file
         (bytes_from (P.calls station.old) file 41)) }
-    ensures told { P.observed → P.calls station.new ≡ P.calls station.old }
-    ensures disk_fault { IsErrOf result OpenFault.DiskFault
-        → Rose (P.disk_faults station.old) (P.disk_faults station.new) }
-    ensures later { P.disk_faults station.old ≤ P.disk_faults station.new }
-    ensures sound { OnOk result (P.disk_faults station.new ≡ P.disk_faults station.old) }
-    ensures say { P.say_faults station.new ≡ P.say_faults station.old }
+    ensures looks { LooksAtOf P.Station OpenFault.DiskFault result station.old station.new }
 {
     let limit = directory.limit();
     let damage = OpenFault::Damaged {

@@ -1,5 +1,5 @@
-ghost use Rattle.std.specs.Prelude.{◌≡◌, ◌+◌, ◌-◌, ◌^◌, ◌<◌, ◌≤◌, ℕ, List, [], ◌++◌, length, drop, take, vec_len, IfOk, OnOk};
-ghost use Rattle.gts_checkpoint.specs.Cited.{HasCause, HasPut, OnlyOn, Seals, Stands, Version as VersionOf, count_of, held, holding, seal};
+ghost use Rattle.std.specs.Prelude.{◌≡◌, ◌+◌, ◌-◌, ◌^◌, ◌<◌, ◌≤◌, ℕ, List, [], ◌++◌, length, take, vec_len, IfOk, OnOk};
+ghost use Rattle.gts_checkpoint.specs.Cited.{AsksDisk, HasPut, OnlyOn, Seals, Stands, Version as VersionOf, count_of, held, holding, seal};
 
 use gts_record::{Sealer, Version};
 use gts_traits::{Failed, JournalFile, Station};
@@ -76,9 +76,7 @@ impl SealingWriter {
         ensures held { self.new.held ≡ [] }
         ensures alone { P.observed → OnlyOn self.old.file (P.calls station.old)
             (P.calls station.new) }
-        ensures cause { HasCause result (P.disk_faults station.old) (P.disk_faults station.new) }
-        ensures sound { OnOk result (P.disk_faults station.new ≡ P.disk_faults station.old) }
-        ensures say { P.say_faults station.new ≡ P.say_faults station.old }
+        ensures cause { AsksDisk P.Station result station.old station.new }
     {
         station.write_at(self.file, self.place, bytes)?;
         self.place += bytes.len() as u64;
@@ -95,9 +93,7 @@ impl SealingWriter {
         ensures held { OnOk result (self.new.held ≡ []) }
         ensures alone { P.observed → OnlyOn self.old.file (P.calls station.old)
             (P.calls station.new) }
-        ensures cause { HasCause result (P.disk_faults station.old) (P.disk_faults station.new) }
-        ensures sound { OnOk result (P.disk_faults station.new ≡ P.disk_faults station.old) }
-        ensures say { P.say_faults station.new ≡ P.say_faults station.old }
+        ensures cause { AsksDisk P.Station result station.old station.new }
     {
         station.write_at(self.file, self.place, &self.buffer[..self.filled])?;
         self.place += self.filled as u64;
@@ -137,9 +133,7 @@ impl SealingWriter {
             (P.calls station.new) self.new) }
         ensures alone { P.observed → OnlyOn self.old.file (P.calls station.old)
             (P.calls station.new) }
-        ensures cause { HasCause result (P.disk_faults station.old) (P.disk_faults station.new) }
-        ensures sound { OnOk result (P.disk_faults station.new ≡ P.disk_faults station.old) }
-        ensures say { P.say_faults station.new ≡ P.say_faults station.old }
+        ensures cause { AsksDisk P.Station result station.old station.new }
     {
         if bytes.len() <= PIECE - self.filled {
             self.hold(bytes);

@@ -1,5 +1,5 @@
 ghost use Rattle.std.specs.Prelude.{◌≡◌, ◌+◌, ◌^◌, ◌<◌, ◌≤◌, [], ◌∷◌, ◌++◌, length, flat_map, IfOk, OnOk, IsErrOf};
-ghost use Rattle.gts_checkpoint.specs.Cited.{AllByRecursion, CanPutBulletin, CanPutCircuit, FitBytes, HasCause, HasPut, HasWritten, OnlyOn, Rose, Seals, Stands, WorksBeside, bulletin_head, bytes_of, checkpoint_text, circuit_head, closed_gate, compacted_bytes, count_of, first_seal, head_text, header_text, held, need_seal, seal, sealed, seen, written, written_bulletin, written_circuit};
+ghost use Rattle.gts_checkpoint.specs.Cited.{AllByRecursion, AsksDisk, AsksDiskOf, CanPutBulletin, CanPutCircuit, FitBytes, HasPut, HasWritten, OnlyOn, Seals, Stands, WorksBeside, bulletin_head, bytes_of, checkpoint_text, circuit_head, closed_gate, compacted_bytes, count_of, first_seal, head_text, header_text, held, need_seal, seal, sealed, seen, written, written_bulletin, written_circuit};
 ghost use Rattle.gts_event.specs.Items as items;
 
 use crate::fault::WriteFault;
@@ -78,9 +78,7 @@ fn put_bulletin<P: Station>(
         (P.calls station.old) writer.old (P.calls station.new) writer.new) }
     ensures alone { P.observed → OnlyOn writer.old.file (P.calls station.old)
         (P.calls station.new) }
-    ensures cause { HasCause result (P.disk_faults station.old) (P.disk_faults station.new) }
-    ensures sound { OnOk result (P.disk_faults station.new ≡ P.disk_faults station.old) }
-    ensures say { P.say_faults station.new ≡ P.say_faults station.old }
+    ensures cause { AsksDisk P.Station result station.old station.new }
 {
     let body = bulletin.body.as_slice();
     let from = bulletin.from as u8;
@@ -103,9 +101,7 @@ fn put_bulletins<P: Station>(
         (P.calls station.old) writer.old (P.calls station.new) writer.new) }
     ensures alone { P.observed → OnlyOn writer.old.file (P.calls station.old)
         (P.calls station.new) }
-    ensures cause { HasCause result (P.disk_faults station.old) (P.disk_faults station.new) }
-    ensures sound { OnOk result (P.disk_faults station.new ≡ P.disk_faults station.old) }
-    ensures say { P.say_faults station.new ≡ P.say_faults station.old }
+    ensures cause { AsksDisk P.Station result station.old station.new }
 {
     for bulletin in bulletins {
         put_bulletin(writer, station, bulletin)?;
@@ -125,9 +121,7 @@ fn put_positions<P: Station>(
         (P.calls station.old) writer.old (P.calls station.new) writer.new) }
     ensures alone { P.observed → OnlyOn writer.old.file (P.calls station.old)
         (P.calls station.new) }
-    ensures cause { HasCause result (P.disk_faults station.old) (P.disk_faults station.new) }
-    ensures sound { OnOk result (P.disk_faults station.new ≡ P.disk_faults station.old) }
-    ensures say { P.say_faults station.new ≡ P.say_faults station.old }
+    ensures cause { AsksDisk P.Station result station.old station.new }
 {
     for position in positions {
         writer.put(station, &eight_bytes(*position))?;
@@ -149,9 +143,7 @@ fn put_circuit<P: Station>(
         (P.calls station.old) writer.old (P.calls station.new) writer.new) }
     ensures alone { P.observed → OnlyOn writer.old.file (P.calls station.old)
         (P.calls station.new) }
-    ensures cause { HasCause result (P.disk_faults station.old) (P.disk_faults station.new) }
-    ensures sound { OnOk result (P.disk_faults station.new ≡ P.disk_faults station.old) }
-    ensures say { P.say_faults station.new ≡ P.say_faults station.old }
+    ensures cause { AsksDisk P.Station result station.old station.new }
 {
     let waiting = circuit.waiting.as_slice();
     let kept = circuit.kept.as_slice();
@@ -174,9 +166,7 @@ fn put_circuits<P: Station>(
         (P.calls station.old) writer.old (P.calls station.new) writer.new) }
     ensures alone { P.observed → OnlyOn writer.old.file (P.calls station.old)
         (P.calls station.new) }
-    ensures cause { HasCause result (P.disk_faults station.old) (P.disk_faults station.new) }
-    ensures sound { OnOk result (P.disk_faults station.new ≡ P.disk_faults station.old) }
-    ensures say { P.say_faults station.new ≡ P.say_faults station.old }
+    ensures cause { AsksDisk P.Station result station.old station.new }
 {
     for circuit in circuits {
         put_circuit(writer, station, circuit)?;
@@ -199,9 +189,7 @@ fn put_need<P: Station>(
         (P.calls station.old) writer.old (P.calls station.new) writer.new) }
     ensures alone { P.observed → OnlyOn writer.old.file (P.calls station.old)
         (P.calls station.new) }
-    ensures cause { HasCause result (P.disk_faults station.old) (P.disk_faults station.new) }
-    ensures sound { OnOk result (P.disk_faults station.new ≡ P.disk_faults station.old) }
-    ensures say { P.say_faults station.new ≡ P.say_faults station.old }
+    ensures cause { AsksDisk P.Station result station.old station.new }
 {
     let circuits = need.circuits.as_slice();
     let bulletins = need.bulletins.as_slice();
@@ -230,9 +218,7 @@ fn put_all<P: Station>(
         (checkpoint_text (items.need_of need.now))) }
     ensures alone { P.observed → OnlyOn writer.old.file (P.calls station.old)
         (P.calls station.new) }
-    ensures cause { HasCause result (P.disk_faults station.old) (P.disk_faults station.new) }
-    ensures sound { OnOk result (P.disk_faults station.new ≡ P.disk_faults station.old) }
-    ensures say { P.say_faults station.new ≡ P.say_faults station.old }
+    ensures cause { AsksDisk P.Station result station.old station.new }
 {
     put_need(writer, station, need)?;
     let seal = writer.take_seal();
@@ -262,9 +248,7 @@ fn write_with<P: Station>(
     ensures seal { IfOk result
         (λ last. held written last ≡ need_seal mark (items.need_of need.now)) }
     ensures alone { P.observed → OnlyOn file (P.calls station.old) (P.calls station.new) }
-    ensures cause { HasCause result (P.disk_faults station.old) (P.disk_faults station.new) }
-    ensures sound { OnOk result (P.disk_faults station.new ≡ P.disk_faults station.old) }
-    ensures say { P.say_faults station.new ≡ P.say_faults station.old }
+    ensures cause { AsksDisk P.Station result station.old station.new }
 {
     station.cut(file, 0)?;
     station.sync()?;
@@ -293,11 +277,7 @@ pub fn write<P: Station>(
     // A crash at any moment leaves the other files as they were, and so does a fault.
     ensures beside { P.observed → WorksBeside file (P.calls station.old) (P.calls station.new) }
     ensures no_memory { IsErrOf result WriteFault.NoMemory → station.new ≡ station.old }
-    ensures disk_fault { IsErrOf result WriteFault.DiskFault
-        → Rose (P.disk_faults station.old) (P.disk_faults station.new) }
-    ensures later { P.disk_faults station.old ≤ P.disk_faults station.new }
-    ensures sound { OnOk result (P.disk_faults station.new ≡ P.disk_faults station.old) }
-    ensures say { P.say_faults station.new ≡ P.say_faults station.old }
+    ensures cause { AsksDiskOf P.Station WriteFault.DiskFault result station.old station.new }
 {
     let version = Version::written();
     let before = first_seal(version, &mark);

@@ -10,7 +10,7 @@ use gts_journal::Journal;
 use gts_memory::{MemLines, MemStation};
 use gts_parts_tests::two_circuits;
 use gts_sender::SendEnd;
-use gts_traits::{FreeGate, Station};
+use gts_traits::{Channel, FreeGate, Station};
 use std::alloc::Global;
 use std::marker::Brand;
 use std::sync::Wait;
@@ -49,7 +49,7 @@ where
     B: Began + Send,
     requires some { 1 ≤ connections }
     requires mode { B.beginning.makes_room ≡ service.goes_on connections }
-    requires stands { Stands P.observed P.calls P.disk_faults P.say_faults B.beginning [] engine }
+    requires stands { Stands P.Station B.beginning [] engine }
     requires observed { P.observed }
 {
     let served: Served<P, B> = serve(rt, alloc, engine, lines, connections, &FreeGate);
@@ -167,6 +167,6 @@ fn a_first_line_that_fails_to_open_is_the_end_before_anything_is_done(
     let (station, end, has_pass) = ran(&rt, rt.alloc(), &mut lines)?;
     assert!(rt; end == ServeEnd::NotOpened { c: 0 });
     assert!(rt; !has_pass);
-    assert!(rt; station.said(0) == b"".as_slice());
+    assert!(rt; station.said(Channel::OPERATOR) == b"".as_slice());
     Ok(())
 }

@@ -3,7 +3,7 @@ use Rattle.std.proofs.Common.{◌≡◌, ◌≢◌, ◌⊎◌, inl, inr, ℕ, ze
 use Rattle.std.proofs.lemmas.List.{append-nil}
 use mathlib.Core.Option.{some, some-injective, some-ne-none}
 use lib.ListN.{get_elem?}
-use Rattle.gts_circuits.specs.Cited.{AreDrained, Beginning, Call, Drains, Engine, Entry, GivesNothing, IsDrained, IsSent, LineFault, LineStood, Outgoing, Quiet, Rose, SendEnd, SenderStands, Sends, Stands, TakesAll, entries, entries_under, flat, fresh, sender_at, sender_name}
+use Rattle.gts_circuits.specs.Cited.{AreDrained, Beginning, Drains, Engine, Entry, Ghosts as SinkMeanings, GivesNothing, HasLineCause, IsDrained, IsSent, LineStood, Outgoing, Quiet, SendEnd, SenderStands, Sends, SinkTook, Stands, StationMeanings, TakesAll, entries, entries_under, flat, fresh, sender_at, sender_name}
 use Rattle.gts_circuits.proofs.PastLemmas.{none_under, sender_differs, sender_more, sending_whole}
 use Rattle.gts_circuits.proofs.RestLemmas.{took_nothing, gives_still}
 
@@ -19,16 +19,16 @@ same_or_not zero (suc c) = inr (λ e. omega (arith, e))
 same_or_not (suc k) zero = inr (λ e. omega (arith, e))
 same_or_not (suc k) (suc c) = elim (same_or_not k c) [ inl is ↦ inl (ap suc is) | inr differ ↦ inr (λ e. differ (omega (arith, e))) ]
 
-module _ {P K : Type 0} (observed : Type 0) (calls : P → List Call) (disk say : P → ℕ) (b : Beginning) (sink_tells : Type 0) (written : K → List ℕ) (sink_faults : K → ℕ) where
+module _ {P K : Type 0} (station : StationMeanings P) (b : Beginning) (outgoing : SinkMeanings K) where
   abbrev StandsFor : List (ℕ × Entry) → Engine P → Type 0
-  StandsFor h e = Stands observed calls disk say b (entries h) e
+  StandsFor h e = Stands station b (entries h) e
 
   abbrev OutStands : (threads : List (ℕ × List Entry)) (history : List (ℕ × Entry)) → ℕ → Outgoing K → Type 0
-  OutStands threads history c y = SenderStands b sink_tells written sink_faults threads history c y
+  OutStands threads history c y = SenderStands b outgoing threads history c y
 
   -- ---- one circuit
 
-  pub drains_none : (c : ℕ) (line : Outgoing K) (e : Engine P) → line.end ≢ Quiet → Drains observed calls disk say b sink_tells written sink_faults c line line e e
+  pub drains_none : (c : ℕ) (line : Outgoing K) (e : Engine P) → line.end ≢ Quiet → Drains station b outgoing c line line e e
   drains_none c line e other threads past stands sender =
       let nil : past ≡ past ++ [] = sym (append-nil past) in
       record {
@@ -40,11 +40,9 @@ module _ {P K : Type 0} (observed : Type 0) (calls : P → List Call) (disk say 
       }
 
   pub drains_all : (c : ℕ) (line now : Outgoing K) (bytes : List ℕ) (old new : Engine P) → line.end ≡ Quiet
-      → TakesAll observed calls disk say b c bytes now.end old new → (sink_tells → written now.sink ≡ written line.sink ++ bytes)
-      → ((index : ℕ) → now.end ≡ LineFault index → Rose (sink_faults line.sink) (sink_faults now.sink))
-      → (LineStood now.end → sink_faults now.sink ≡ sink_faults line.sink)
-      → Drains observed calls disk say b sink_tells written sink_faults c line now old new
-  drains_all c line now bytes old new quiet takes wrote fault sound threads past stands sender =
+      → TakesAll station b c bytes now.end old new → SinkTook outgoing line.sink now.sink bytes → HasLineCause outgoing now.end line.sink now.sink
+      → Drains station b outgoing c line now old new
+  drains_all c line now bytes old new quiet takes wrote cause threads past stands sender =
       let n : ℕ = sender_name c in
       let Q : SendEnd → Type 0 = λ end. IsSent b threads past c sender.bytes end in
       let s : IsSent b threads past c sender.bytes Quiet = subst Q quiet sender.sent in
@@ -66,8 +64,8 @@ module _ {P K : Type 0} (observed : Type 0) (calls : P → List Call) (disk say 
             sent = sent;
           };
           told = λ observed. wrote observed ∙ ap (λ (l : List ℕ). l ++ bytes) (sender.told observed);
-          failed = λ index e. let f = fault index e in omega (arith, f);
-          sound = λ stood. sound stood ∙ sender.sound (let S : SendEnd → Type 0 = LineStood in subst S (sym quiet) tt);
+          failed = λ index e. let f = cause.failed index e in omega (arith, f);
+          sound = λ stood. cause.sound stood ∙ sender.sound (let S : SendEnd → Type 0 = LineStood in subst S (sym quiet) tt);
         };
         nothing = λ e.
             let R : SendEnd → Type 0 = λ end. Sends c (fresh b s.hall n) (sender_at b s.hall c s.full (past ++ t.added)) (sender.bytes ++ bytes) end in
@@ -77,13 +75,11 @@ module _ {P K : Type 0} (observed : Type 0) (calls : P → List Call) (disk say 
   -- ---- all circuits
 
   pub drained_more : (threads : List (ℕ × List Entry)) (xs ys : List (Outgoing K)) (c : ℕ) (x y : Outgoing K) (old new : Engine P)
-      → AreDrained observed calls disk say b sink_tells written sink_faults threads xs c old
-      → Drains observed calls disk say b sink_tells written sink_faults c x y old new
+      → AreDrained station b outgoing threads xs c old
+      → Drains station b outgoing c x y old new
       → get_elem? xs c ≡ some x → get_elem? ys c ≡ some y → ((k : ℕ) (z : Outgoing K) → k ≢ c → get_elem? ys k ≡ some z → get_elem? xs k ≡ some z)
-      → AreDrained observed calls disk say b sink_tells written sink_faults threads ys (c + 1) new
+      → AreDrained station b outgoing threads ys (c + 1) new
   drained_more threads xs ys c x y old new all one at there others =
-      let past = flat threads ++ all.drained in
-      let d = one threads past all.stands (all.each c x at) in
       let join : past ++ d.added ≡ flat threads ++ (all.drained ++ d.added) = append_assoc (flat threads) all.drained d.added in
       record {
         drained = all.drained ++ d.added;
@@ -99,7 +95,7 @@ module _ {P K : Type 0} (observed : Type 0) (calls : P → List Call) (disk say 
       past : List (ℕ × Entry)
       past = flat threads ++ all.drained
 
-      d : IsDrained observed calls disk say b sink_tells written sink_faults threads past c y new
+      d : IsDrained station b outgoing threads past c y new
       d = one threads past all.stands (all.each c x at)
 
       stand : (k : ℕ) (z : Outgoing K) → get_elem? ys k ≡ some z → OutStands threads (past ++ d.added) k z
@@ -108,7 +104,7 @@ module _ {P K : Type 0} (observed : Type 0) (calls : P → List Call) (disk say 
             let e : y ≡ z = some-injective y z (sym there ∙ ap (get_elem? ys) (sym is) ∙ place) in
             subst (λ (j : ℕ). OutStands threads (past ++ d.added) j z) (sym is) (subst (λ (w : Outgoing K). OutStands threads (past ++ d.added) c w) e d.sender)
         | inr differ ↦
-            sender_more b threads past d.added k sink_tells written sink_faults z
+            sender_more b threads past d.added k outgoing z
             (none_under (sender_name k) d.added (λ j w at'. λ e. sender_differs c k (λ f. differ (sym f)) (sym (d.named j w at').0 ∙ e)))
             (all.each k z (others k z differ place))
       ]
@@ -123,7 +119,7 @@ module _ {P K : Type 0} (observed : Type 0) (calls : P → List Call) (disk say 
 
   pub none_drained : (threads : List (ℕ × List Entry)) (ys : List (Outgoing K)) (e : Engine P) → StandsFor (flat threads) e
       → ((c : ℕ) (y : Outgoing K) → get_elem? ys c ≡ some y → OutStands threads (flat threads) c y)
-      → AreDrained observed calls disk say b sink_tells written sink_faults threads ys 0 e
+      → AreDrained station b outgoing threads ys 0 e
   none_drained threads ys e stands each =
       let nil : flat threads ≡ flat threads ++ [] = sym (append-nil (flat threads)) in
       record {

@@ -1,6 +1,6 @@
 -- What a turn adds in which a connection is fed.
 use Rattle.std.proofs.Common.{◌≡◌, ℕ, Bool, true, List, [], ◌∷◌, length, refl, sym, subst, ◌∙◌, arith}
-use Rattle.gts_circuits.specs.Cited.{AddsFor, All, Beginning, Call, Decoding, Engine, Entry, Event, FeedEnd, Feeding, Feeds, GoesFed, GoesOver, IsShortAt, IsSpent, Lost, Seen, SettlesFed, Spent, Standing, Step, Wanting, all_of, entries, events_added, events_of_signs, is_event, settled, signs_of_step}
+use Rattle.gts_circuits.specs.Cited.{AddsFor, All, Beginning, Decoding, Engine, Entry, Event, FeedEnd, Feeding, Feeds, GoesFed, GoesOver, IsShortAt, IsSpent, Lost, Seen, SettlesFed, Spent, Standing, StationMeanings, Step, Wanting, all_of, entries, events_added, events_of_signs, is_event, settled, signs_of_step}
 use Rattle.gts_calls.specs.declared.fed.FeedEnd.TheVariants.{Fault}
 use Rattle.gts_calls.specs.Cited.{Reads}
 use Rattle.gts_frame.specs.declared.step.Step.TheVariants as steps
@@ -8,14 +8,14 @@ use Rattle.gts_event.specs.declared.event.Event.TheVariants as event
 use Rattle.gts_calls.proofs.GoingLemmas.{stands_settled}
 use Rattle.gts_circuits.proofs.GatheringLemmas.{M}
 
-module _ {P W : Type 0} (engine : W → Engine P) (makes : W → Bool) (observed : Type 0) (calls : P → List Call) (disk say : P → ℕ) (b : Beginning) where
+module _ {P W : Type 0} (engine : W → Engine P) (makes : W → Bool) (station : StationMeanings P) (b : Beginning) where
   abbrev pub N : Standing Beginning W
-  N = M engine makes observed calls disk say
+  N = M engine makes station
 
   -- it was fed, and then settled
   pub fed_more : (f : Feeding) (history : List (ℕ × List Entry)) (first mid later last : W) (end : FeedEnd)
       → settled N b (all_of (entries history)) first → GoesOver N f.c f.begun f.step f.start first f.taken f.message end mid → later ≡ mid → SettlesFed N end f.end later last
-      → (more : List Entry) × AddsFor observed calls disk say b f history (engine last) more × (makes last ≡ b.makes_room)
+      → (more : List Entry) × AddsFor station b f history (engine last) more × (makes last ≡ b.makes_room)
   fed_more f history first mid later last end stood goes same settles =
       let h : List Entry = all_of (entries history) in
       let fed : GoesFed N b (length h) h f.c goes.events f.message end mid = goes.goes b (length h) h (stands_settled N b (length h) h first (omega arith) stood) in

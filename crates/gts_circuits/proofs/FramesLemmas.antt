@@ -7,7 +7,8 @@ use Rattle.gts_receiver.specs.declared.end.ReceiveEnd.TheVariants.{Ended, Fault}
 use Rattle.gts_receiver.specs.Cited.{settled}
 use Rattle.gts_event.specs.declared.event.Entry.TheVariants.{Done}
 use Rattle.gts_sender.specs.declared.end.SendEnd.TheVariants as sending
-use Rattle.gts_circuits.proofs.PastLemmas.{under-append, none_behind, frames_whole}
+use Rattle.gts_circuits.proofs.FlatLemmas.{under-append}
+use Rattle.gts_circuits.proofs.PastLemmas.{none_behind, frames_whole}
 use Rattle.gts_calls.proofs.LawLemmas.{under_all}
 
 abbrev History : Type 0

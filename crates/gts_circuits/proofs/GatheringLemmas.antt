@@ -1,7 +1,7 @@
 -- An engine in a hall gathers what a feed asks of it, whatever compactions are done meanwhile.
 use Rattle.std.proofs.Common.{◌≡◌, ℕ, ◌≤◌, ◌⊎◌, inl, inr, ⊎_elim, Bool, true, false, List, [], ◌∷◌, ◌++◌, length, Result, Ok, Err, refl, sym, ap, subst, ◌∙◌, arith, IsErrOf}
 use Rattle.std.proofs.lemmas.List.{append-nil, append_assoc}
-use Rattle.gts_circuits.specs.Cited.{AfterCall, AfterHearing, AfterSettling, Alone, AreCramped, AtOnce, Beginning, Behind, Call, Caller, Directory, Disk, DiskFault, Done, Doubt, Engine, Entry, Event, Full, GathersCompacted, GathersNone, GathersOne, GathersPlain, HasCallCause, HasDoubt, HasUnsaid, Idle, IsAccepted, IsAnswerCause, IsAnswered, IsCrampedFor, IsCutShort, IsFullEither, IsGatheredWithRoom, IsHeard, IsInDoubt, IsOneMore, IsSettling, NoMemory, Origin, Outcome, Rose, Say, SayFault, Spent, Standing, State, Stopped, SwitchFault, Unsaid, after_all, all_done, all_unsaid, housed_meanings, meanings_of, origin_with, outcome, outcome_at, outcome_behind, settled, state_at, used_at}
+use Rattle.gts_circuits.specs.Cited.{AfterCall, AfterHearing, AfterSettling, Alone, AreCramped, AtOnce, Beginning, Behind, Caller, Directory, Disk, DiskFault, Done, Doubt, Engine, Entry, Event, Full, GathersCompacted, GathersNone, GathersOne, GathersPlain, HasCallCause, HasDoubt, HasUnsaid, Idle, IsAccepted, IsAnswerCause, IsAnswered, IsCrampedFor, IsCutShort, IsFullEither, IsGatheredWithRoom, IsHeard, IsInDoubt, IsOneMore, IsSettling, NoMemory, Origin, Outcome, Rose, Say, SayFault, Spent, Standing, State, StationMeanings, Stopped, SwitchFault, Unsaid, after_all, all_done, all_unsaid, housed_meanings, meanings_of, origin_with, outcome, outcome_at, outcome_behind, settled, state_at, used_at}
 use Rattle.gts_event.specs.Cited.{begun}
 use Rattle.gts_calls.proofs.HeardLemmas.{as_hearing}
 use Rattle.gts_circuits.proofs.StandingLemmas.{split_last, split_end, full_accepts, rose_on, rose_from, doubt_on, unsaid_on, still_on}
@@ -137,18 +137,18 @@ module _ (b : Beginning) where
     say_still = λ n. s.say_still (λ x. n (unsaid_on entries (all_done events) x));
   }
 
-module _ {P W : Type 0} (engine : W → Engine P) (makes : W → Bool) (observed : Type 0) (calls : P → List Call) (disk say : P → ℕ) where
+module _ {P W : Type 0} (engine : W → Engine P) (makes : W → Bool) (station : StationMeanings P) where
   abbrev pub M : Standing Beginning W
-  M = housed_meanings engine makes observed calls disk say
+  M = housed_meanings engine makes station
 
   abbrev pub E : Standing Origin (Engine P)
-  E = meanings_of observed calls Caller
+  E = meanings_of station Caller
 
   abbrev pub disk_of : W → ℕ
-  disk_of w = disk (engine w).station
+  disk_of w = station.disk_faults (engine w).station
 
   abbrev pub say_of : W → ℕ
-  say_of w = say (engine w).station
+  say_of w = station.say_faults (engine w).station
 
   module _ (b : Beginning) (old new : W) (same : makes new ≡ makes old) where
     -- an engine with other compactions
@@ -389,7 +389,7 @@ module _ {P W : Type 0} (engine : W → Engine P) (makes : W → Bool) (observed
 
   -- a message for which room is made
   pub heard_with_room : (event : Event) (result : Result Outcome SwitchFault) (old new : W) → makes new ≡ makes old → HasCallCause result (disk_of old) (disk_of new) (say_of old) (say_of new)
-      → makes old ≡ true → IsGatheredWithRoom observed calls Caller event result (engine old) (engine new) → IsHeard M event result old new
+      → makes old ≡ true → IsGatheredWithRoom station Caller event result (engine old) (engine new) → IsHeard M event result old new
   heard_with_room event result old new same cause made t = record {
     directory = t.directory;
     adds = λ b entries events g. adds b entries events g (t.adds (origin_with b g.0.compactions) entries events g.0.keeps);
@@ -412,9 +412,9 @@ module _ {P W : Type 0} (engine : W → Engine P) (makes : W → Bool) (observed
       cramped b entries events g used need limit is = (t.caused (origin_with b g.0.compactions) entries events g.0.keeps (Full used need limit) is).1
 
       adds : (b : Beginning) (entries : List Entry) (events : List Event) (g : M.gathers b entries events old)
-          → GathersPlain observed calls Caller (origin_with b g.0.compactions) entries events event result (engine new)
-          ⊎ (GathersCompacted observed calls Caller (origin_with b g.0.compactions) entries events event result (engine new)
-          ⊎ GathersNone observed calls Caller (origin_with b g.0.compactions) entries events event result (engine new))
+          → GathersPlain station Caller (origin_with b g.0.compactions) entries events event result (engine new)
+          ⊎ (GathersCompacted station Caller (origin_with b g.0.compactions) entries events event result (engine new)
+          ⊎ GathersNone station Caller (origin_with b g.0.compactions) entries events event result (engine new))
           → AfterHearing M b entries events event result new
       adds b entries events g (inl plain) =
           as_hearing M b entries events event result new

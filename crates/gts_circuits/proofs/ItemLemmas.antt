@@ -1,10 +1,10 @@
 -- Items of lists, by their places.
 use Rattle.std.proofs.Common.{◌≡◌, ◌≢◌, ℕ, zero, suc, ◌<◌, List, [], ◌∷◌, ◌++◌, length, length-append, ◌+◌, map, take, get_or, slice_set, Some, refl, sym, ap, ◌∙◌, arith, add-one, slice_get}
 use Rattle.std.proofs.lemmas.List.{map-append}
-use mathlib.Core.Option.{some, some-injective, some-ne-none}
+use mathlib.Core.Option.{some}
 use lib.ListN.{get_elem?}
 use Rattle.gts_circuits.specs.Cited.{Circuit, CircuitRoom, Directory, PlaceSeen, place_asked, place_of}
-use Rattle.gts_circuits.proofs.PlacesLemmas.{in_middle}
+use Rattle.gts_circuits.proofs.PlacesLemmas.{in_middle, map_at}
 
 module _ {A : Type 0} where
   pub item_at : (xs : List A) (k : ℕ) (d : A) → k < length xs → get_elem? xs k ≡ some (get_or xs k d)
@@ -32,14 +32,9 @@ module _ {A : Type 0} where
   pub less_than_all : (xs : List A) (x : A) (rest all : List A) → xs ++ x ∷ rest ≡ all → length xs < length all
   less_than_all xs x rest all is = let e : length xs + length (x ∷ rest) ≡ length all = sym (length-append xs (x ∷ rest)) ∙ ap (λ (l : List A). length l) is in omega (arith, e)
 
-pub mapped_at : {A B : Type 0} (f : A → B) (xs : List A) (k : ℕ) (x : A) → get_elem? xs k ≡ some x → get_elem? (map f xs) k ≡ some (f x)
-mapped_at f [] k x at = absurd (some-ne-none x (sym at))
-mapped_at f (y ∷ xs) zero x at = ap (λ (z : _). some (f z)) (some-injective y x at)
-mapped_at f (y ∷ xs) (suc k) x at = mapped_at f xs k x at
-
 pub asked_at : (before : List CircuitRoom) (room : CircuitRoom) (rest all : List CircuitRoom) (c : ℕ) → before ++ room ∷ rest ≡ all → c ≡ length before
     → get_elem? (map place_asked all) c ≡ some (place_asked room)
-asked_at before room rest all c is place = ap (get_elem? (map place_asked all)) place ∙ mapped_at place_asked all (length before) room (in_middle before room rest all is)
+asked_at before room rest all c is place = ap (get_elem? (map place_asked all)) place ∙ map_at place_asked all (length before) room (in_middle before room rest all is)
 
 -- one item more of a list that was mapped
 pub take_next : {A B : Type 0} (f : A → B) (xs : List A) (k : ℕ) (x : A) → slice_get xs k ≡ Some x → take (suc k) (map f xs) ≡ take k (map f xs) ++ f x ∷ []

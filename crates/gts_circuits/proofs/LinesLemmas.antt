@@ -1,9 +1,10 @@
 -- Lines, circuit by circuit.
 use Rattle.std.proofs.Common.{◌≡◌, ◌≢◌, ◌⊎◌, inl, inr, ℕ, zero, suc, ◌+◌, ◌<◌, ◌≤◌, true, false, List, [], ◌∷◌, ◌++◌, length, refl, sym, ap, ◌∙◌, subst, arith}
-use Rattle.gts_circuits.specs.Cited.{AreOpened, Begun, CircuitBytes, CountsSockets, HasParts, Incoming, IsClosed, IsOpened, IsSame, LinesSeen, Outgoing, PlaceSeen, SameElsewhere, Sockets, first_connection}
+use Rattle.gts_circuits.specs.Cited.{AreOpened, CircuitBytes, CountsSockets, Ghosts as SinkMeanings, HasParts, Incoming, IsClosed, IsOpened, IsSame, LinesSeen, Outgoing, PlaceSeen, SameElsewhere, Sockets, SourceMeanings, first_connection}
 use mathlib.Core.Option.{some, some-injective, some-ne-none}
 use lib.ListN.{get_elem?}
 use Rattle.gts_circuits.proofs.DrainLemmas.{same_or_not}
+use Rattle.gts_circuits.proofs.PlacesLemmas.{at_less}
 
 abbrev pub Elsewhere : ℕ → LinesSeen → LinesSeen → Type 0
 Elsewhere c m n = SameElsewhere c m.is_open m.faults m.place m.bytes n.is_open n.faults n.place n.bytes
@@ -25,20 +26,15 @@ last_or_before [] x (suc k) y at = absurd (some-ne-none y (sym at))
 last_or_before (z ∷ xs) x zero y at = inl at
 last_or_before (z ∷ xs) x (suc k) y at = elim (last_or_before xs x k y at) [ inl before ↦ inl before | inr last ↦ inr (ap suc last.0, last.1) ]
 
-pub below : {A : Type 0} (xs : List A) (k : ℕ) (x : A) → get_elem? xs k ≡ some x → k < length xs
-below [] k x at = absurd (some-ne-none x (sym at))
-below (y ∷ xs) zero x at = omega arith
-below (y ∷ xs) (suc k) x at = let h = below xs k x at in omega arith
-
-module _ {S K : Type 0} (source_tells : Type 0) (begun_by : S → Begun) (left : S → List ℕ) (source_faults : S → ℕ) (sink_tells : Type 0) (written : K → List ℕ) (sink_faults : K → ℕ)
+module _ {S K : Type 0} (incoming : SourceMeanings S) (outgoing : SinkMeanings K)
     (asked : List PlaceSeen) (connections : ℕ) where
   -- ---- opening
 
   abbrev Opened : LinesSeen → LinesSeen → ℕ → Sockets S K → Type 0
-  Opened before now c x = IsOpened source_tells begun_by left source_faults sink_tells written sink_faults before now c x
+  Opened before now c x = IsOpened incoming outgoing before now c x
 
   abbrev AllOpened : LinesSeen → LinesSeen → List (Sockets S K) → ℕ → Type 0
-  AllOpened before now xs from = AreOpened source_tells begun_by left source_faults sink_tells written sink_faults before now asked connections xs from
+  AllOpened before now xs from = AreOpened incoming outgoing before now asked connections xs from
 
   opened_still : (l m n : LinesSeen) (c k : ℕ) (x : Sockets S K) → Elsewhere c m n → k ≢ c → Opened l m k x → Opened l n k x
   opened_still l m n c k x e differ o = record {
@@ -67,12 +63,12 @@ module _ {S K : Type 0} (source_tells : Type 0) (begun_by : S → Begun) (left :
   ]
 
   pub one_opened : (l m n : LinesSeen) (c : ℕ) (xs : List (Sockets S K)) (x : Sockets S K) → length xs ≡ c → AllOpened l m xs c → Elsewhere c m n
-      → n.is_open c ≡ true → (source_tells → begun_by x.source ≡ first_connection (left x.source)) → (sink_tells → written x.sink ≡ [])
-      → source_faults x.source ≡ 0 → sink_faults x.sink ≡ 0 → n.faults c ≡ m.faults c
+      → n.is_open c ≡ true → (incoming.observed → incoming.begun x.source ≡ first_connection (incoming.left x.source)) → (outgoing.observed → outgoing.written x.sink ≡ [])
+      → incoming.faults x.source ≡ 0 → outgoing.faults x.sink ≡ 0 → n.faults c ≡ m.faults c
       → get_elem? asked c ≡ some (n.place c) → x.connections ≡ connections → AllOpened l n (xs ++ x ∷ []) (c + 1)
   one_opened l m n c xs x count all e opened first unwritten source_fresh sink_fresh sound at many = record {
     each = λ k y there. elim (last_or_before xs x k y there) as (λ _. Opened l n k y) [
-      | inl before ↦ opened_still l m n c k y e (λ is. let h = below xs k y before in omega (arith, is, h, count)) (all.each k y before)
+      | inl before ↦ opened_still l m n c k y e (λ is. let h = at_less xs k y before in omega (arith, is, h, count)) (all.each k y before)
       | inr last ↦
           let O : ℕ → Type 0 = λ j. Opened l n j y in
           let Q : Sockets S K → Type 0 = λ z. Opened l n c z in
@@ -101,40 +97,40 @@ module _ {S K : Type 0} (source_tells : Type 0) (begun_by : S → Begun) (left :
   one_failed l m n c xs count all e at = record {
     for_all = all.for_all;
     places = places_more l m n c xs all e at;
-    each = λ k y there. opened_still l m n c k y e (λ is. let h = below xs k y there in omega (arith, is, h, count)) (all.each k y there);
+    each = λ k y there. opened_still l m n c k y e (λ is. let h = at_less xs k y there in omega (arith, is, h, count)) (all.each k y there);
     others = λ k from. same_still l m n c k e (λ is. omega (arith, is, from)) (all.others k (omega (arith, from)));
   }
 
-module _ {S K : Type 0} (source_tells : Type 0) (begun_by : S → Begun) (left : S → List ℕ) (source_faults : S → ℕ) (sink_tells : Type 0) (written : K → List ℕ) (sink_faults : K → ℕ) where
+module _ {S K : Type 0} (incoming : SourceMeanings S) (outgoing : SinkMeanings K) where
   -- ---- closing
 
   abbrev Closed : LinesSeen → LinesSeen → ℕ → S → K → Type 0
-  Closed before now c x y = IsClosed source_tells begun_by left source_faults sink_tells written sink_faults before now c x y
+  Closed before now c x y = IsClosed incoming outgoing before now c x y
 
   pub closed_still : (l m n : LinesSeen) (c k : ℕ) (x : S) (y : K) → Elsewhere c m n → k ≢ c → Closed l m k x y → Closed l n k x y
   closed_still l m n c k x y e differ o = record {
     closed = e.opened k differ ∙ o.closed;
     place = e.place k differ ∙ o.place;
-    parts = λ observed. let P : CircuitBytes → Type 0 = λ b. HasParts (begun_by x) (left x) b.parts in subst P (sym (e.bytes k differ)) (o.parts observed);
+    parts = λ observed. let P : CircuitBytes → Type 0 = λ b. HasParts (incoming.begun x) (incoming.left x) b.parts in subst P (sym (e.bytes k differ)) (o.parts observed);
     taken = λ observed. ap (λ (b : CircuitBytes). b.taken) (e.bytes k differ) ∙ o.taken observed;
-    counted = let P : ℕ → Type 0 = λ f. CountsSockets (source_faults x) (sink_faults y) (l.faults k) f in subst P (sym (e.faults k differ)) o.counted;
+    counted = let P : ℕ → Type 0 = λ f. CountsSockets (incoming.faults x) (outgoing.faults y) (l.faults k) f in subst P (sym (e.faults k differ)) o.counted;
   }
 
   pub closed_now : (l m n : LinesSeen) (c : ℕ) (x : S) (y : K) → IsSame l m c → n.is_open c ≡ false
-      → n.place c ≡ m.place c → (source_tells → HasParts (begun_by x) (left x) (n.bytes c).parts) → (sink_tells → (n.bytes c).taken ≡ written y)
-      → CountsSockets (source_faults x) (sink_faults y) (m.faults c) (n.faults c) → Closed l n c x y
+      → n.place c ≡ m.place c → (incoming.observed → HasParts (incoming.begun x) (incoming.left x) (n.bytes c).parts) → (outgoing.observed → (n.bytes c).taken ≡ outgoing.written y)
+      → CountsSockets (incoming.faults x) (outgoing.faults y) (m.faults c) (n.faults c) → Closed l n c x y
   closed_now l m n c x y s closed placed parts taken counted = record {
     closed = closed;
     place = placed ∙ s.place;
     parts = parts;
     taken = taken;
-    counted = let P : ℕ → Type 0 = λ f. CountsSockets (source_faults x) (sink_faults y) f (n.faults c) in subst P s.faults counted;
+    counted = let P : ℕ → Type 0 = λ f. CountsSockets (incoming.faults x) (outgoing.faults y) f (n.faults c) in subst P s.faults counted;
   }
 
-module _ {S K : Type 0} (source_tells : Type 0) (begun_by : S → Begun) (left : S → List ℕ) (source_faults : S → ℕ) (sink_tells : Type 0) (written : K → List ℕ) (sink_faults : K → ℕ)
+module _ {S K : Type 0} (incoming : SourceMeanings S) (outgoing : SinkMeanings K)
     (l m n : LinesSeen) (c : ℕ) (elsewhere : Elsewhere c m n) where
   abbrev ClosedBy : LinesSeen → ℕ → S → K → Type 0
-  ClosedBy now k x y = IsClosed source_tells begun_by left source_faults sink_tells written sink_faults l now k x y
+  ClosedBy now k x y = IsClosed incoming outgoing l now k x y
 
   -- one circuit more is closed, in their order
   pub closed_more : (xs : List (Sockets S K)) (x : Sockets S K) → get_elem? xs c ≡ some x → ClosedBy n c x.source x.sink
@@ -144,7 +140,7 @@ module _ {S K : Type 0} (source_tells : Type 0) (begun_by : S → Begun) (left :
     | inl is ↦
         let e : x ≡ y = some-injective x y (sym at ∙ ap (get_elem? xs) (sym is) ∙ there) in
         subst (λ (j : ℕ). ClosedBy n j y.source y.sink) (sym is) (subst (λ (z : Sockets S K). ClosedBy n c z.source z.sink) e new)
-    | inr differ ↦ closed_still source_tells begun_by left source_faults sink_tells written sink_faults l m n c k y.source y.sink elsewhere differ (before k y (omega (arith, less, differ)) there)
+    | inr differ ↦ closed_still incoming outgoing l m n c k y.source y.sink elsewhere differ (before k y (omega (arith, less, differ)) there)
   ]
 
   -- and from the last one
@@ -158,5 +154,5 @@ module _ {S K : Type 0} (source_tells : Type 0) (begun_by : S → Begun) (left :
         let f : y ≡ b = some-injective y b (sym place ∙ ap (get_elem? ys) (sym is) ∙ other) in
         subst (λ (j : ℕ). ClosedBy n j a.source b.sink) (sym is)
         (subst (λ (z : Outgoing K). ClosedBy n c a.source z.sink) f (subst (λ (z : Incoming S). ClosedBy n c z.source y.sink) e new))
-    | inr differ ↦ closed_still source_tells begun_by left source_faults sink_tells written sink_faults l m n c k a.source b.sink elsewhere differ (behind k a b (omega (arith, from, differ)) one other)
+    | inr differ ↦ closed_still incoming outgoing l m n c k a.source b.sink elsewhere differ (behind k a b (omega (arith, from, differ)) one other)
   ]

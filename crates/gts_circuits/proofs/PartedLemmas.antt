@@ -1,7 +1,7 @@
 -- The sockets of all lines, once the workers have ended.
 use Rattle.std.proofs.Common.{◌≡◌, ℕ, zero, suc, ◌+◌, ◌*◌, ◌<◌, ◌≤◌, true, false, List, [], ◌∷◌, ◌++◌, length, length-append, map, Option, Some, None, refl, sym, ap, ◌∙◌, subst, arith, append_assoc}
 use Rattle.std.proofs.lemmas.List.{append-nil}
-use Rattle.gts_circuits.specs.Cited.{AllStand, AreOpened, Beginning, Begun, EndsWithin, Entry, GoesThrough, Incoming, IsOpened, Known, KnowsOwn, Line, LinesSeen, MOST_TURNS, Outgoing, Part, PassKeeps, Passes, PlaceSeen, Reads, ReceiverKeeps, ReceiverStands, Receives, Seen, SenderKeeps, SenderStands, Sends, Sockets, StartsWith, TableId, Tells, Work, Writes, all_of, behind, ends, entries_under, first_connection, flat, fresh, given_before, has_end, incoming_of, outgoing_of, receiver_name, receivers_of, seen_at, seen_by, sender_name, senders_of, sink_of, source_of, works_of}
+use Rattle.gts_circuits.specs.Cited.{AllStand, AreOpened, Beginning, Begun, EndsWithin, Entry, Ghosts as SinkMeanings, GoesThrough, Incoming, IsOpened, Known, KnowsOwn, Line, LinesSeen, MOST_TURNS, Outgoing, Part, PassKeeps, Passes, PlaceSeen, Reads, ReceiverKeeps, ReceiverStands, Receives, Seen, SenderKeeps, SenderStands, Sends, Sockets, SourceMeanings, StartsWith, TableId, Tells, Work, Writes, all_of, behind, ends, entries_under, first_connection, flat, fresh, given_before, has_end, incoming_of, outgoing_of, receiver_name, receivers_of, seen_at, seen_by, sender_name, senders_of, sink_of, source_of, works_of}
 use Rattle.gts_circuits.specs.Gathering.{Stands}
 use mathlib.Core.Option.{some, some-injective, some-ne-none}
 use lib.ListN.{get_elem?}
@@ -53,13 +53,13 @@ in_front [] ys k x less at = absurd (omega (arith, less))
 in_front (y ∷ xs) ys zero x less at = at
 in_front (y ∷ xs) ys (suc k) x less at = in_front xs ys k x (omega (arith, less)) at
 
-module _ (b : Beginning) {S K : Type 0} (source_tells : Type 0) (begun_by : S → Begun) (left : S → List ℕ) (source_faults : S → ℕ) (sink_tells : Type 0) (written : K → List ℕ) (sink_faults : K → ℕ)
+module _ (b : Beginning) {S K : Type 0} (incoming : SourceMeanings S) (outgoing : SinkMeanings K)
     (asked : List PlaceSeen) (connections : ℕ) (before now : LinesSeen) (history : List (ℕ × List Entry)) (hall : TableId) (few : length history ≤ MOST_TURNS) where
   abbrev StandsAs : List (Line S K) → ℕ → Work S K → Type 0
-  StandsAs ls k w = Stands b source_tells begun_by left source_faults sink_tells written sink_faults history ls k w
+  StandsAs ls k w = Stands b incoming outgoing history ls k w
 
   abbrev Opened : ℕ → Sockets S K → Type 0
-  Opened c s = IsOpened source_tells begun_by left source_faults sink_tells written sink_faults before now c s
+  Opened c s = IsOpened incoming outgoing before now c s
 
   abbrev receiver_work : ℕ → Sockets S K → Work S K
   receiver_work c s = record { circuit = c; hall = hall; first = Reads s.connections s.source; ended = true }
@@ -68,10 +68,10 @@ module _ (b : Beginning) {S K : Type 0} (source_tells : Type 0) (begun_by : S �
   sender_work c s = record { circuit = c; hall = hall; first = Writes s.sink; ended = true }
 
   abbrev InStands : ℕ → Incoming S → Type 0
-  InStands c x = ReceiverStands b source_tells begun_by left source_faults history (flat history) c connections x
+  InStands c x = ReceiverStands b incoming history (flat history) c connections x
 
   abbrev OutStands : ℕ → Outgoing K → Type 0
-  OutStands c y = SenderStands b sink_tells written sink_faults history (flat history) c y
+  OutStands c y = SenderStands b outgoing history (flat history) c y
 
   seen_is : (p : Known (List Entry)) (name : ℕ) → p.hall ≡ Some hall → p.name ≡ name → seen_by b p ≡ seen_at b hall name (length p.own) p.full (flat p.seen)
   seen_is p name at named =
@@ -118,13 +118,13 @@ module _ (b : Beginning) {S K : Type 0} (source_tells : Type 0) (begun_by : S �
 
   receiver_line : (c : ℕ) (s : Sockets S K) (l : Line S K) (p : Known (List Entry)) → Opened c s → s.connections ≡ connections → StartsWith history p.seen
       → entries_under p.name history ≡ entries_under p.name p.seen → (p.full ≡ true → length history ≡ MOST_TURNS)
-      → PassKeeps b source_tells begun_by left source_faults sink_tells written sink_faults c hall (Reads s.connections s.source) l p → has_end l ≡ true
+      → PassKeeps b incoming outgoing c hall (Reads s.connections s.source) l p → has_end l ≡ true
       → (x : Incoming S) × (source_of l ≡ x ∷ []) × (sink_of l ≡ []) × InStands c x
   receiver_line c s (lines.Incoming source many decoder (Some end)) p opened for_all front same full keeps ended =
-      let r : ReceiverKeeps source_tells begun_by left source_faults c s.connections s.source source (fresh b hall (receiver_name c)) (seen_by b p) end = keeps.keeps in
+      let r : ReceiverKeeps incoming c s.connections s.source source (fresh b hall (receiver_name c)) (seen_by b p) end = keeps.keeps in
       let R : Seen → Type 0 = λ d. Receives c s.connections (fresh b hall (receiver_name c)) d r.earlier r.last end in
       let N : ℕ → Type 0 = λ n. Receives c n (fresh b hall (receiver_name c)) (seen_at b hall (receiver_name c) (length p.own) p.full (flat p.seen)) r.earlier r.last end in
-      let T : ℕ → ℕ → Type 0 = λ n first. GoesThrough source_tells c n first (source_faults source) r.earlier r.last end in (
+      let T : ℕ → ℕ → Type 0 = λ n first. GoesThrough incoming.observed c n first (incoming.faults source) r.earlier r.last end in (
         record { source = source; end = end },
         refl,
         refl,
@@ -140,12 +140,12 @@ module _ (b : Beginning) {S K : Type 0} (source_tells : Type 0) (begun_by : S �
             within = within_by p (receiver_name c) keeps.name front same full;
             received = subst N for_all (subst R (seen_is p (receiver_name c) keeps.hall_is keeps.name) r.received);
           };
-          told = λ observed. tells_now (begun_by s.source) (begun_by source) (left s.source) (left source) r.earlier r.last (opened.first observed) (r.gave observed).passes (r.gave observed).left_is;
+          told = λ observed. tells_now (incoming.begun s.source) (incoming.begun source) (incoming.left s.source) (incoming.left source) r.earlier r.last (opened.first observed) (r.gave observed).passes (r.gave observed).left_is;
           through = subst (λ (n : ℕ). T n 0) for_all (subst (T s.connections) opened.source_fresh r.through);
           over = λ observed. (r.gave observed).over;
           ended = r.ended;
-          failed = λ e. let f = r.fault e in omega (arith, opened.source_fresh, f);
-          sound = λ all. r.sound all ∙ opened.source_fresh;
+          failed = λ e. let f = r.cause.failed e in omega (arith, opened.source_fresh, f);
+          sound = λ all. r.cause.sound all ∙ opened.source_fresh;
         },
       )
   receiver_line c s (lines.Incoming source many decoder None) p opened for_all front same full keeps ended = absurd (no_end ended)
@@ -166,7 +166,7 @@ module _ (b : Beginning) {S K : Type 0} (source_tells : Type 0) (begun_by : S �
   sources c (s ∷ ss) (l ∷ ls) count opened for_all stands =
       let at = stands 0 c s refl (omega arith) in
       let is : at.line ≡ l = sym (some-injective l at.line at.line_at) in
-      let P : Line S K → Type 0 = λ m. PassKeeps b source_tells begun_by left source_faults sink_tells written sink_faults c hall (Reads s.connections s.source) m at.pass in
+      let P : Line S K → Type 0 = λ m. PassKeeps b incoming outgoing c hall (Reads s.connections s.source) m at.pass in
       let r = receiver_line c s l at.pass (opened 0 c s refl (omega arith)) (for_all 0 s refl) at.front at.own at.full (subst P is at.keeps) (ap has_end (sym is) ∙ at.ended) in
       let rest = sources (c + 1) ss ls (omega (arith, count))
       (λ k j t there e. opened (suc k) j t there (omega (arith, e)))
@@ -193,10 +193,10 @@ module _ (b : Beginning) {S K : Type 0} (source_tells : Type 0) (begun_by : S �
 
   sender_line : (c : ℕ) (s : Sockets S K) (l : Line S K) (p : Known (List Entry)) → Opened c s → StartsWith history p.seen
       → entries_under p.name history ≡ entries_under p.name p.seen → (p.full ≡ true → length history ≡ MOST_TURNS)
-      → PassKeeps b source_tells begun_by left source_faults sink_tells written sink_faults c hall (Writes s.sink) l p → has_end l ≡ true
+      → PassKeeps b incoming outgoing c hall (Writes s.sink) l p → has_end l ≡ true
       → (y : Outgoing K) × (sink_of l ≡ y ∷ []) × (source_of l ≡ []) × OutStands c y
   sender_line c s (lines.Outgoing sink given (Some end)) p opened front same full keeps ended =
-      let r : SenderKeeps sink_tells written sink_faults c s.sink sink (fresh b hall (sender_name c)) (seen_by b p) end = keeps.keeps in
+      let r : SenderKeeps outgoing c s.sink sink (fresh b hall (sender_name c)) (seen_by b p) end = keeps.keeps in
       let R : Seen → Type 0 = λ d. Sends c (fresh b hall (sender_name c)) d r.bytes end in (
         record { sink = sink; frame = given.one; end = end },
         refl,
@@ -212,8 +212,8 @@ module _ (b : Beginning) {S K : Type 0} (source_tells : Type 0) (begun_by : S �
             sent = subst R (seen_is p (sender_name c) keeps.hall_is keeps.name) r.sent;
           };
           told = λ observed. r.told observed ∙ ap (λ (l : List ℕ). l ++ r.bytes) (opened.unwritten observed);
-          failed = λ index e. let f = r.fault index e in omega (arith, opened.sink_fresh, f);
-          sound = λ stood. r.sound stood ∙ opened.sink_fresh;
+          failed = λ index e. let f = r.cause.failed index e in omega (arith, opened.sink_fresh, f);
+          sound = λ stood. r.cause.sound stood ∙ opened.sink_fresh;
         },
       )
   sender_line c s (lines.Outgoing sink given None) p opened front same full keeps ended = absurd (no_end ended)
@@ -233,7 +233,7 @@ module _ (b : Beginning) {S K : Type 0} (source_tells : Type 0) (begun_by : S �
   sinks c (s ∷ ss) (l ∷ ls) count opened stands =
       let at = stands 0 c s refl (omega arith) in
       let is : at.line ≡ l = sym (some-injective l at.line at.line_at) in
-      let P : Line S K → Type 0 = λ m. PassKeeps b source_tells begun_by left source_faults sink_tells written sink_faults c hall (Writes s.sink) m at.pass in
+      let P : Line S K → Type 0 = λ m. PassKeeps b incoming outgoing c hall (Writes s.sink) m at.pass in
       let r = sender_line c s l at.pass (opened 0 c s refl (omega arith)) at.front at.own at.full (subst P is at.keeps) (ap has_end (sym is) ∙ at.ended) in
       let rest = sinks (c + 1) ss ls (omega (arith, count))
       (λ k j t there e. opened (suc k) j t there (omega (arith, e)))
@@ -282,8 +282,8 @@ module _ (b : Beginning) {S K : Type 0} (source_tells : Type 0) (begun_by : S �
     pub each_sink : (c : ℕ) (y : Outgoing K) → get_elem? (outgoing_of ls) c ≡ some y → OutStands c y
 
   pub parted : (ss : List (Sockets S K)) (ls : List (Line S K)) → length ls ≡ 2 * length ss
-      → AreOpened source_tells begun_by left source_faults sink_tells written sink_faults before now asked connections ss (length ss)
-      → AllStand b source_tells begun_by left source_faults sink_tells written sink_faults history ls (map ends (works_of hall ss)) → Parted (length ss) ls
+      → AreOpened incoming outgoing before now asked connections ss (length ss)
+      → AllStand b incoming outgoing history ls (map ends (works_of hall ss)) → Parted (length ss) ls
   parted ss ls count opened stands =
       let n = length ss in
       let t = split_list n n ls (count ∙ omega arith) in
@@ -342,7 +342,7 @@ module _ (b : Beginning) {S K : Type 0} (source_tells : Type 0) (begun_by : S �
 
   -- all workers have their ends
   pub all_ended : (ss : List (Sockets S K)) (ls : List (Line S K)) → length ls ≡ 2 * length ss
-      → AllStand b source_tells begun_by left source_faults sink_tells written sink_faults history ls (map ends (works_of hall ss))
+      → AllStand b incoming outgoing history ls (map ends (works_of hall ss))
       → (k : ℕ) (l : Line S K) → get_elem? ls k ≡ some l → has_end l ≡ true
   all_ended ss ls count stands k l at =
       let w = there (map ends (works_of hall ss)) k (let less = at_less ls k l at in omega (arith, less, count, count_works hall ss)) in

@@ -1,27 +1,15 @@
 -- Entries under a name, and what stays so of a worker that has ended while the history goes on.
 use Rattle.std.proofs.Common.{◌≡◌, ◌≢◌, ℕ, ◌≤◌, ◌==◌, suc, length, List, [], ◌∷◌, ◌++◌, Bool, true, false, cond, refl, sym, ap, ◌∙◌, subst, arith, append_assoc}
 use Rattle.std.proofs.lemmas.Bool.{eqb-true}
-use Rattle.gts_circuits.specs.Cited.{Beginning, Directory, EndsWithin, Entry, IsReceived, IsSent, Outgoing, Part, ReceiveEnd, SendEnd, SenderStands, Sending, State, TableId, after_all, after_entry, entries, entries_under, filter, frame_of, frames, fresh, receiver_name, seen_at, sender_at, sender_name}
+use Rattle.gts_circuits.specs.Cited.{Beginning, Directory, EndsWithin, Entry, Ghosts as SinkMeanings, IsReceived, IsSent, Outgoing, Part, ReceiveEnd, SendEnd, SenderStands, Sending, State, TableId, after_all, after_entry, entries, entries_under, filter, frame_of, frames, fresh, receiver_name, seen_at, sender_at, sender_name}
 use Rattle.gts_event.specs.Cited.{begun}
 use Rattle.std.proofs.lemmas.List.{append-nil, append_cancel_left}
+use Rattle.gts_circuits.proofs.FlatLemmas.{under-append}
 use mathlib.Core.Option.{some}
 use lib.ListN.{get_elem?}
 
 abbrev History : Type 0
 History = List (ℕ × Entry)
-
-pub entries-append : (g h : History) → entries (g ++ h) ≡ entries g ++ entries h
-entries-append [] h = refl
-entries-append (x ∷ g) h = ap (λ (l : List Entry). x.1 ∷ l) (entries-append g h)
-
-pub under-append : (name : ℕ) (g h : History) → entries_under name (g ++ h) ≡ entries_under name g ++ entries_under name h
-under-append name [] h = refl
-under-append name (x ∷ g) h = go (under-append name g h) (x.0 == name) refl
-  where
-    go : entries_under name (g ++ h) ≡ entries_under name g ++ entries_under name h → (b : Bool) → (x.0 == name) ≡ b
-        → entries_under name (x ∷ (g ++ h)) ≡ entries_under name (x ∷ g) ++ entries_under name h
-    go rest true e = rw e (ap (λ (l : List Entry). x.1 ∷ l) rest)
-    go rest false e = rw e rest
 
 -- under a name there are no more entries than there are
 pub under_few : {E : Type 0} (name : ℕ) (g : List (ℕ × E)) → length (entries_under name g) ≤ length g
@@ -32,7 +20,7 @@ under_few name (x ∷ g) = go (under_few name g) (x.0 == name) refl
     go rest true e = rw e (omega (arith, rest))
     go rest false e = rw e (omega (arith, rest))
 
-not_empty : {A : Type 0} (x : A) (xs : List A) → x ∷ xs ≡ [] → ⊥
+pub not_empty : {A : Type 0} (x : A) (xs : List A) → x ∷ xs ≡ [] → ⊥
 not_empty x xs e = cc e
 
 pub frames-append : (d : Directory) (s : State) (name : ℕ) (xs ys : History)
@@ -106,9 +94,9 @@ module _ (b : Beginning) (threads : List (ℕ × List Entry)) (history added : H
     sent = s.sent;
   }
 
-  pub sender_more : {K : Type 0} (observed : Type 0) (written : K → List ℕ) (faults : K → ℕ) (x : Outgoing K) → entries_under (sender_name c) added ≡ []
-      → SenderStands b observed written faults threads history c x → SenderStands b observed written faults threads (history ++ added) c x
-  sender_more observed written faults x none s = record {
+  pub sender_more : {K : Type 0} (outgoing : SinkMeanings K) (x : Outgoing K) → entries_under (sender_name c) added ≡ []
+      → SenderStands b outgoing threads history c x → SenderStands b outgoing threads (history ++ added) c x
+  sender_more outgoing x none s = record {
     bytes = s.bytes;
     sent = sent_more s.bytes x.end none s.sent;
     told = s.told;

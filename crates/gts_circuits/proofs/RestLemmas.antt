@@ -5,7 +5,7 @@ use Rattle.gts_circuits.specs.Cited.{AreTakes, Beginning, Choice, CircuitState, 
 use Rattle.gts_event.specs.Cited.{begun}
 use Rattle.gts_event.specs.declared.event.Entry.TheVariants.{Done}
 use Rattle.gts_event.proofs.LawLemmas.{after_all-append, nothing_left}
-use Rattle.gts_circuits.proofs.PastLemmas.{entries-append}
+use Rattle.gts_circuits.proofs.FlatLemmas.{entries-append}
 
 abbrev leads_to : Choice → Outcome
 leads_to x = elim x [ Repeats index ↦ Resend index | Draws index position ↦ Draw index | Nothing_waits ↦ Nothing ]

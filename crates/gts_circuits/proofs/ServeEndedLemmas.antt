@@ -13,18 +13,18 @@ module _ (b : Beginning) {S K : Type 0} (source : SourceMeanings S) (sink : Sink
     pub sources_are : length (incoming_of lines) ≡ count
     pub sinks_are : length (outgoing_of lines) ≡ count
     pub each_source : (c : ℕ) (x : Incoming S) → get_elem? (incoming_of lines) c ≡ some x
-        → ReceiverStands b source.observed source.begun source.left source.faults threads (flat threads) c connections x
+        → ReceiverStands b source threads (flat threads) c connections x
     pub each_sink : (c : ℕ) (y : Outgoing K) → get_elem? (outgoing_of lines) c ≡ some y
-        → SenderStands b sink.observed sink.written sink.faults threads (flat threads) c y
+        → SenderStands b sink threads (flat threads) c y
     pub unclosed : (c : ℕ) → c < length (outgoing_of lines) → now.is_open c ≡ true
 
   pub are_ended : {asked : List PlaceSeen} {connections : ℕ} {before now : LinesSeen} (hall : TableId) (threads : List (ℕ × List Entry)) (sockets : List (Sockets S K)) (lines : List (Line S K))
-      → AreOpened source.observed source.begun source.left source.faults sink.observed sink.written sink.faults before now asked connections sockets (length sockets)
+      → AreOpened source sink before now asked connections sockets (length sockets)
       → length lines ≡ 2 * length sockets → LinesStand b source sink hall sockets threads lines → length threads ≤ MOST_TURNS → AreEnded connections now threads (length sockets) lines
   are_ended {asked} {connections} {before} {now} hall threads sockets lines opened count stand few =
-      let p = parted b source.observed source.begun source.left source.faults sink.observed sink.written sink.faults asked connections before now threads hall few sockets lines count opened stand in
+      let p = parted b source sink asked connections before now threads hall few sockets lines count opened stand in
       record {
-        ended = all_ended b source.observed source.begun source.left source.faults sink.observed sink.written sink.faults asked connections before now threads hall few sockets lines count stand;
+        ended = all_ended b source sink asked connections before now threads hall few sockets lines count stand;
         sources_are = p.sources_are;
         sinks_are = p.sinks_are;
         each_source = p.each_source;

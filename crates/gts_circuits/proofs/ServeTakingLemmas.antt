@@ -2,13 +2,13 @@
 use Rattle.std.proofs.Common.{◌≡◌, ℕ, zero, suc, List, length, [], ◌∷◌, ◌++◌, Bool, Some, Result, Ok, Err, refl, sym, ap, ◌∙◌, subst, arith, append_assoc, length-append}
 use Rattle.std.proofs.lemmas.List.{append-nil}
 use mathlib.Core.Option.{some-injective, some-ne-none}
-use Rattle.gts_circuits.specs.Cited.{Answers, AreTakes, Beginning, Call, DiskFault, Engine, Entry, Full, IsTake, Known, LeavesFrame, Never, NoMemory, Outcome, SayFault, Seen, SendEnd, Sending, Spent, Stands, Stopped, SwitchFault, TableId, Taken, TakesOnce, Tried, Turns, WroteGiven, after_adding, all_of, entries, entries_under, entry_by, flat, seen_at, seen_by, sender_at, sender_name}
+use Rattle.gts_circuits.specs.Cited.{Answers, AreTakes, Beginning, DiskFault, Engine, Entry, Full, IsTake, Known, LeavesFrame, Never, NoMemory, Outcome, SayFault, Seen, SendEnd, Sending, Spent, Stands, StationMeanings, Stopped, SwitchFault, TableId, Taken, TakesOnce, Tried, Turns, WroteGiven, after_adding, all_of, entries, entries_under, entry_by, flat, seen_at, seen_by, sender_at, sender_name}
 use Rattle.gts_circuits.specs.Standing.{Takes, TakesSome}
 use Rattle.gts_sender.specs.declared.end.SendEnd.TheVariants.{Fault}
 use Rattle.gts_circuits.proofs.HousedLawLemmas as desk
 use Rattle.gts_circuits.proofs.HousedLawLemmas.{entries_flat, flat_one}
 use Rattle.gts_sender.proofs.LawLemmas.{given, failed}
-use Rattle.gts_circuits.proofs.PastLemmas.{entries-append, under-append}
+use Rattle.gts_circuits.proofs.FlatLemmas.{entries-append, under-append}
 use Rattle.gts_circuits.proofs.TurnsLemmas.{as_turns, flat_turns, count_turns}
 use Rattle.gts_calls.proofs.LawLemmas.{under_all}
 
@@ -30,12 +30,12 @@ both_takes c [] ys one other k x at = other k x at
 both_takes c (z ∷ xs) ys one other zero x at = one zero x at
 both_takes c (z ∷ xs) ys one other (suc k) x at = both_takes c xs ys (λ j y there. one (suc j) y there) other k x at
 
-module _ {P : Type 0} (observed : Type 0) (calls : P → List Call) (disk say : P → ℕ) (b : Beginning) (c : ℕ) where
+module _ {P : Type 0} (station : StationMeanings P) (b : Beginning) (c : ℕ) where
   -- ---- one take
 
   module _ (out : List ℕ) (result : Result Outcome SwitchFault) (old new : Engine P)
-      (turns : Turns observed calls disk say b (Taken c) (LeavesFrame b.origin.directory c out) result old new) where
-    module _ (hall : TableId) (full : Bool) (past : List (ℕ × Entry)) (stands : Stands observed calls disk say b (entries past) old) where
+      (turns : Turns station b (Taken c) (LeavesFrame b.origin.directory c out) result old new) where
+    module _ (hall : TableId) (full : Bool) (past : List (ℕ × Entry)) (stands : Stands station b (entries past) old) where
       abbrev n : ℕ
       n = sender_name c
 
@@ -80,33 +80,33 @@ module _ {P : Type 0} (observed : Type 0) (calls : P → List Call) (disk say : 
       answered =
           let A : Seen → Seen → Type 0 = λ x y. Answers x (Taken c) (LeavesFrame b.origin.directory c out) result y in
           let so : A (seen_by b pass) (seen_by b (after_adding pass (entry ∷ []))) =
-          desk.taken observed calls disk say b c out result pass (after_adding pass (entry ∷ [])) (record {
+          desk.taken station b c out result pass (after_adding pass (entry ∷ [])) (record {
             history = as_turns past;
             engine = new;
             later = ([], sym (append-nil (as_turns past)));
             knows = refl;
             own = refl;
-            adds = turns (all_of (entries (as_turns past))) (subst (λ (es : List Entry). Stands observed calls disk say b es old) same_entries stands);
+            adds = turns (all_of (entries (as_turns past))) (subst (λ (es : List Entry). Stands station b es old) same_entries stands);
             is = refl;
           }) in
           subst (λ (x : Seen). A x at_last) before (subst (A (seen_by b pass)) after so)
 
       pub taken : (Comes : Seen → Seen → List ℕ → Type 0) (bytes : List ℕ)
           → ((first : Seen) (sent : List ℕ) → Sending c first at_first sent → Comes first at_last (sent ++ bytes))
-          → Takes observed calls disk say b Comes c hall full past bytes new
+          → Takes station b Comes c hall full past bytes new
       taken Comes bytes sends = record {
         added = (sender_name c, entry) ∷ [];
         named = one_take c entry (by_take c result);
-        stands = let S : List Entry → Type 0 = λ es. Stands observed calls disk say b es new in
+        stands = let S : List Entry → Type 0 = λ es. Stands station b es new in
             subst S (sym (entries-append past ((sender_name c, entry) ∷ []))) (turns (entries past) stands).stands;
         sends = sends;
       }
 
   module _ (out : List ℕ) (old new : Engine P) where
     pub once_failed : (f : SwitchFault)
-        → Turns observed calls disk say b (Taken c) (LeavesFrame b.origin.directory c out) (Err f) old new
-        → Never observed calls disk say b SayFault (Err f) old → Never observed calls disk say b NoMemory (Err f) old
-        → TakesOnce observed calls disk say b c [] (Err (Fault f)) old new
+        → Turns station b (Taken c) (LeavesFrame b.origin.directory c out) (Err f) old new
+        → Never station b SayFault (Err f) old → Never station b NoMemory (Err f) old
+        → TakesOnce station b c [] (Err (Fault f)) old new
     once_failed f turns silent memory hall full past stands =
         taken out (Err f) old new turns hall full past stands (λ first seen sent. Tried c first seen sent (Err (Fault f))) []
         (failed c (sender_at b hall c full past) (at_last out (Err f) old new turns hall full past stands) out f
@@ -114,8 +114,8 @@ module _ {P : Type 0} (observed : Type 0) (calls : P → List Call) (disk say : 
         (λ is. silent (entries past) stands (ap Err is)) (λ is. memory (entries past) stands (ap Err is)))
 
     pub once_given : (o : Outcome) (bytes : List ℕ) (result : Result Bool SendEnd)
-        → Turns observed calls disk say b (Taken c) (LeavesFrame b.origin.directory c out) (Ok o) old new
-        → WroteGiven o out bytes result → TakesOnce observed calls disk say b c bytes result old new
+        → Turns station b (Taken c) (LeavesFrame b.origin.directory c out) (Ok o) old new
+        → WroteGiven o out bytes result → TakesOnce station b c bytes result old new
     once_given o bytes result turns wrote hall full past stands =
         taken out (Ok o) old new turns hall full past stands (λ first seen sent. Tried c first seen sent result) bytes
         (given c (sender_at b hall c full past) (at_last out (Ok o) old new turns hall full past stands) out o bytes result
@@ -123,21 +123,21 @@ module _ {P : Type 0} (observed : Type 0) (calls : P → List Call) (disk say : 
 
   -- ---- takes one after another
 
-  pub none_yet : (old : Engine P) → TakesSome observed calls disk say b c [] old old
+  pub none_yet : (old : Engine P) → TakesSome station b c [] old old
   none_yet old hall full past stands = record {
     added = [];
     named = λ k x at. absurd (some-ne-none x (sym at));
-    stands = let S : List (ℕ × Entry) → Type 0 = λ h. Stands observed calls disk say b (entries h) old in subst S (sym (append-nil past)) stands;
+    stands = let S : List (ℕ × Entry) → Type 0 = λ h. Stands station b (entries h) old in subst S (sym (append-nil past)) stands;
     sends = λ first sent so_far.
         let S : List (ℕ × Entry) → List ℕ → Type 0 = λ h l. Sending c first (sender_at b hall c full h) l in
         subst (λ (h : List (ℕ × Entry)). S h (sent ++ [])) (sym (append-nil past)) (subst (S past) (sym (append-nil sent)) so_far);
   }
 
-  pub then_more : (Comes : Seen → Seen → List ℕ → Type 0) (fore more : List ℕ) (old mid new : Engine P) → TakesSome observed calls disk say b c fore old mid
-      → ((hall : TableId) (full : Bool) (past : List (ℕ × Entry)) → Stands observed calls disk say b (entries past) mid
-      → Takes observed calls disk say b Comes c hall full past more new)
-      → (hall : TableId) (full : Bool) (past : List (ℕ × Entry)) → Stands observed calls disk say b (entries past) old
-      → Takes observed calls disk say b Comes c hall full past (fore ++ more) new
+  pub then_more : (Comes : Seen → Seen → List ℕ → Type 0) (fore more : List ℕ) (old mid new : Engine P) → TakesSome station b c fore old mid
+      → ((hall : TableId) (full : Bool) (past : List (ℕ × Entry)) → Stands station b (entries past) mid
+      → Takes station b Comes c hall full past more new)
+      → (hall : TableId) (full : Bool) (past : List (ℕ × Entry)) → Stands station b (entries past) old
+      → Takes station b Comes c hall full past (fore ++ more) new
   then_more Comes fore more old mid new takes last hall full past stands =
       let t = takes hall full past stands in
       let u = last hall full (past ++ t.added) t.stands in
@@ -145,7 +145,7 @@ module _ {P : Type 0} (observed : Type 0) (calls : P → List Call) (disk say : 
       record {
         added = t.added ++ u.added;
         named = both_takes c t.added u.added t.named u.named;
-        stands = let S : List (ℕ × Entry) → Type 0 = λ h. Stands observed calls disk say b (entries h) new in subst S join u.stands;
+        stands = let S : List (ℕ × Entry) → Type 0 = λ h. Stands station b (entries h) new in subst S join u.stands;
         sends = λ first sent so_far.
             let S : List (ℕ × Entry) → List ℕ → Type 0 = λ h l. Comes first (sender_at b hall c full h) l in
             subst (λ (h : List (ℕ × Entry)). S h (sent ++ (fore ++ more))) join

@@ -2,7 +2,7 @@
 use Rattle.std.proofs.Common.{◌≡◌, ◌⊎◌, inl, inr, ℕ, zero, suc, ◌+◌, ◌-◌, ◌*◌, ◌<◌, ◌≤◌, ◌==◌, Bool, true, false, not, cond, List, [], ◌∷◌, ◌++◌, length, map, length-append, Some, refl, sym, ap, ◌∙◌, subst, arith}
 use Rattle.std.proofs.lemmas.Bool.{eq-eqb, cases_lt}
 use Rattle.std.proofs.lemmas.List.{append_cancel_right}
-use Rattle.gts_circuits.specs.Cited.{AreOpened, AreOver, Beginning, Begun, Call, Circuit, Directory, Engine, Entry, Event, HasNoPorts, HasPlace, HavePassed, Incoming, IsAtRest, IsClosed, IsDoneIn, IsFinished, IsHandedBack, IsOpened, IsOver, IsReceived, IsSame, IsSent, IsShutIfClosed, Line, LineStood, LinesSeen, Long, LostSync, MOST_TURNS, NamesAreUpTo, Outgoing, Part, PlaceSeen, ReceiveEnd, Receiver, ReceiverStands, Rose, SendEnd, Sender, ServeEnd, Serves, ServesCircuit, Sockets, SourceFault, SourceMeanings, StopsAtOpening, Taken, Tells, TookFrames, WentThroughAll, all_done, ends_of, entries, entries_under, events_over, filter, first_fault, flat, goes_on, incoming_of, is_try, on_circuit, outgoing_of, place_of, place_open, receiver_first, receiver_name, sender_first, sender_name, state_at, takes, waiting}
+use Rattle.gts_circuits.specs.Cited.{AreOpened, AreOver, Beginning, Begun, Circuit, Directory, Engine, Entry, Event, Ghosts as SinkMeanings, HasNoPorts, HasPlace, HavePassed, Incoming, IsAtRest, IsClosed, IsDoneIn, IsFinished, IsHandedBack, IsOpened, IsOver, IsReceived, IsSame, IsSent, IsShutIfClosed, Line, LineStood, LinesSeen, Long, LostSync, MOST_TURNS, NamesAreUpTo, Outgoing, Part, PlaceSeen, ReceiveEnd, Receiver, ReceiverStands, Rose, SendEnd, Sender, ServeEnd, Serves, ServesCircuit, Sockets, SourceFault, SourceMeanings, StationMeanings, StopsAtOpening, Taken, Tells, TookFrames, WentThroughAll, all_done, ends_of, entries, entries_under, events_over, filter, first_fault, flat, goes_on, incoming_of, is_try, on_circuit, outgoing_of, place_of, place_open, receiver_first, receiver_name, sender_first, sender_name, state_at, takes, waiting}
 use Rattle.gts_circuits.specs.declared.service.end.ServeEnd.TheVariants.{Done}
 use Rattle.gts_receiver.specs.declared.end.ReceiveEnd.TheVariants.{Ended, Fault}
 use Rattle.gts_receiver.specs.Cited.{settled}
@@ -15,6 +15,7 @@ use Rattle.gts_circuits.proofs.PastLemmas.{none_under, received_more, not_receiv
 use Rattle.gts_circuits.proofs.FramesLemmas.{took_frames, entered}
 use Rattle.gts_circuits.proofs.DrainLemmas.{in_both}
 use Rattle.gts_circuits.proofs.RestLemmas.{nothing_there}
+use Rattle.gts_circuits.proofs.StandingLemmas.{rose_from}
 use Rattle.gts_circuits.proofs.TurnsLemmas.{named_flat}
 
 -- ---- ends
@@ -131,9 +132,6 @@ named_at (y ∷ ys) (suc k) e at = named_at ys k e at
 
 -- ---- counts
 
-rose_before : (a b c : ℕ) → a ≤ b → Rose b c → Rose a c
-rose_before a b c later rose = omega (arith, later, rose)
-
 -- the count of a source is no lower behind connections that passed
 passed_later : (told : Type 0) (c : ℕ) (parts : List Part) (before now : ℕ) → HavePassed told c parts before now → before ≤ now
 passed_later told c [] before now passed = passed
@@ -179,13 +177,13 @@ shut_at d (r ∷ rows) (suc c) row place at is shut = shut_at d rows c row place
 shut_if_closed : (d : Directory) (now : LinesSeen) (c : ℕ) → HasPlace d now c → IsShutIfClosed d now c
 shut_if_closed d now c at = λ row is shut. shut_at d d.circuits c row (now.place c) at is shut
 
-module _ {S K : Type 0} (incoming : SourceMeanings S) (sink_tells : Type 0) (written : K → List ℕ) (sink_faults : K → ℕ)
+module _ {S K : Type 0} (incoming : SourceMeanings S) (outgoing : SinkMeanings K)
     (asked : List PlaceSeen) (connections : ℕ) (before mid now : LinesSeen) where
   -- ---- lines of which none was used
 
-  pub handed_back : (d : Directory) → asked ≡ map (place_of d) d.circuits → (c : ℕ) (x : Sockets S K) → IsOpened incoming.observed incoming.begun incoming.left incoming.faults sink_tells written sink_faults before mid c x
+  pub handed_back : (d : Directory) → asked ≡ map (place_of d) d.circuits → (c : ℕ) (x : Sockets S K) → IsOpened incoming outgoing before mid c x
       → get_elem? asked c ≡ some (mid.place c)
-      → IsClosed incoming.observed incoming.begun incoming.left incoming.faults sink_tells written sink_faults mid now c x.source x.sink → IsHandedBack d incoming.observed sink_tells before now c
+      → IsClosed incoming outgoing mid now c x.source x.sink → IsHandedBack d incoming.observed outgoing.observed before now c
   handed_back d asked_is c x o at z = record {
     closed = z.closed;
     place = with_place_of asked mid now d asked_is c at z.place;
@@ -202,9 +200,9 @@ module _ {S K : Type 0} (incoming : SourceMeanings S) (sink_tells : Type 0) (wri
   }
 
   pub stops : (d : Directory) → asked ≡ map (place_of d) d.circuits → (xs : List (Sockets S K)) (f : ℕ) → f < length d.circuits → length xs ≡ f → mid.is_open f ≡ before.is_open f → Rose (before.faults f) (mid.faults f)
-      → AreOpened incoming.observed incoming.begun incoming.left incoming.faults sink_tells written sink_faults before mid asked connections xs (f + 1)
-      → ((c : ℕ) (x : Sockets S K) → get_elem? xs c ≡ some x → IsClosed incoming.observed incoming.begun incoming.left incoming.faults sink_tells written sink_faults mid now c x.source x.sink)
-      → ((c : ℕ) → length xs ≤ c → IsSame mid now c) → StopsAtOpening d incoming.observed sink_tells f before now
+      → AreOpened incoming outgoing before mid asked connections xs (f + 1)
+      → ((c : ℕ) (x : Sockets S K) → get_elem? xs c ≡ some x → IsClosed incoming outgoing mid now c x.source x.sink)
+      → ((c : ℕ) → length xs ≤ c → IsSame mid now c) → StopsAtOpening d incoming.observed outgoing.observed f before now
   stops d asked_is xs f less many unopened rose opened closed others =
       let same : IsSame mid now f = others f (omega (arith, many)) in
       record {
@@ -218,16 +216,16 @@ module _ {S K : Type 0} (incoming : SourceMeanings S) (sink_tells : Type 0) (wri
 
   -- ---- a run
 
-  module _ {P : Type 0} (observed : Type 0) (calls : P → List Call) (disk say : P → ℕ) (b : Beginning) (sockets : List (Sockets S K)) (lines : List (Line S K))
+  module _ {P : Type 0} (station : StationMeanings P) (b : Beginning) (sockets : List (Sockets S K)) (lines : List (Line S K))
       (threads : List (ℕ × List Entry)) (end : ServeEnd) (engine : Engine P)
       (circuits : length sockets ≡ length b.origin.directory.circuits)
-      (opened : AreOpened incoming.observed incoming.begun incoming.left incoming.faults sink_tells written sink_faults before mid asked connections sockets (length sockets))
+      (opened : AreOpened incoming outgoing before mid asked connections sockets (length sockets))
       (asked_is : asked ≡ map (place_of b.origin.directory) b.origin.directory.circuits)
       (sources_are : length (incoming_of lines) ≡ length sockets) (sinks_are : length (outgoing_of lines) ≡ length sockets)
       (each_source : (c : ℕ) (x : Incoming S) → get_elem? (incoming_of lines) c ≡ some x
-      → ReceiverStands b incoming.observed incoming.begun incoming.left incoming.faults threads (flat threads) c connections x)
+      → ReceiverStands b incoming threads (flat threads) c connections x)
       (names : NamesAreUpTo (2 * length sockets) threads)
-      (f : IsFinished observed calls disk say b incoming.observed incoming.begun incoming.left incoming.faults sink_tells written sink_faults mid now threads lines end engine)
+      (f : IsFinished station b incoming outgoing mid now threads lines end engine)
       (few : length threads ≤ MOST_TURNS) where
     abbrev ins : List (Incoming S)
     ins = incoming_of lines
@@ -251,7 +249,7 @@ module _ {S K : Type 0} (incoming : SourceMeanings S) (sink_tells : Type 0) (wri
     none_received c = none_under (receiver_name c) drained (λ k x at e. let t = f.drained.takes k x at in not_receiver t.0 c (sym t.2 ∙ e))
 
     -- the connections that a source began
-    parts_are : (c : ℕ) (x : Incoming S) (y : Outgoing K) → IsClosed incoming.observed incoming.begun incoming.left incoming.faults sink_tells written sink_faults mid now c x.source y.sink
+    parts_are : (c : ℕ) (x : Incoming S) (y : Outgoing K) → IsClosed incoming outgoing mid now c x.source y.sink
         → (earlier : List Part) (last : Part) → Tells (incoming.begun x.source) (incoming.left x.source) earlier last → incoming.observed → (now.bytes c).parts ≡ earlier ++ last ∷ []
     parts_are c x y z earlier last told observed =
         let parts = z.parts observed in
@@ -270,7 +268,7 @@ module _ {S K : Type 0} (incoming : SourceMeanings S) (sink_tells : Type 0) (wri
     all_begun c (Fault fault) r all = absurd all
 
     circuit : (c : ℕ) (x : Incoming S) (y : Outgoing K) → get_elem? ins c ≡ some x → get_elem? f.sinks c ≡ some y
-        → ServesCircuit b incoming sink_tells connections threads whole before now c x.end y.end
+        → ServesCircuit b incoming outgoing.observed connections threads whole before now c x.end y.end
     circuit c x y at place =
         let r = each_source c x at in
         let s = f.drained.each c y place in
@@ -278,7 +276,7 @@ module _ {S K : Type 0} (incoming : SourceMeanings S) (sink_tells : Type 0) (wri
         let t = there sockets c (let l = at_less ins c x at in omega (arith, l, sources_are)) in
         let o = opened.each c t.0 t.1 in
         let rose : 0 < incoming.faults x.source → Rose (before.faults c) (now.faults c) = λ more.
-        rose_before (before.faults c) (mid.faults c) (now.faults c) (omega (arith, o.sound)) (z.counted.failed (omega (arith, more))) in
+        rose_from (before.faults c) (mid.faults c) (now.faults c) (omega (arith, o.sound)) (z.counted.failed (omega (arith, more))) in
         let parts : incoming.observed → (now.bytes c).parts ≡ r.earlier ++ r.last ∷ [] = λ observed. parts_are c x y z r.earlier r.last (r.told observed) observed in
         let whole_received = received_more b threads (flat threads) drained c connections r.earlier r.last x.end (none_received c) r.received in
         let placed : HasPlace b.origin.directory now c =
@@ -312,7 +310,7 @@ module _ {S K : Type 0} (incoming : SourceMeanings S) (sink_tells : Type 0) (wri
               let T : List ℕ → Type 0 = λ l. TookFrames b c whole y.end l in
               subst T (sym (z.taken observed ∙ s.told observed)) (took_frames b threads whole c s.bytes y.end s.sent);
           source_failed = λ e. rose (r.failed e);
-          sink_failed = λ index e. rose_before (before.faults c) (mid.faults c) (now.faults c) (omega (arith, o.sound)) (z.counted.failed (let l = s.failed index e in omega (arith, l)));
+          sink_failed = λ index e. rose_from (before.faults c) (mid.faults c) (now.faults c) (omega (arith, o.sound)) (z.counted.failed (let l = s.failed index e in omega (arith, l)));
           sound = λ all stood. let a = r.sound all in let b = s.sound stood in z.counted.sound (omega (arith, a, b)) ∙ o.sound;
           closed = z.closed;
         }
@@ -329,15 +327,15 @@ module _ {S K : Type 0} (incoming : SourceMeanings S) (sink_tells : Type 0) (wri
       fine : (k : ℕ) (x : ReceiveEnd × SendEnd) → get_elem? ends k ≡ some x → WentThroughAll x.0 × (x.1 ≡ sending.Quiet)
       fine = all_fine 0 ends (sym f.end_is ∙ done)
 
-      settled_done : (c : ℕ) (earlier : List Part) (last : Part) (r : ReceiveEnd) → settled (goes_on connections) (entries_under (receiver_name c) whole) ≡ all_done (events_over c (earlier ++ last ∷ []))
+      settled_done : (c : ℕ) (earlier : List Part) (last : Part) → settled (goes_on connections) (entries_under (receiver_name c) whole) ≡ all_done (events_over c (earlier ++ last ∷ []))
           → AllDoneIn (goes_on connections) (entries_under (receiver_name c) whole)
-      settled_done c earlier last r is =
+      settled_done c earlier last is =
           let D : List Entry → Type 0 = AllDone in
           done_settled (goes_on connections) (entries_under (receiver_name c) whole) (subst D (sym is) (done_events (events_over c (earlier ++ last ∷ []))))
 
       received_done : (c : ℕ) (earlier : List Part) (last : Part) (r : ReceiveEnd) → WentThroughAll r → IsReceived b threads whole c connections earlier last r → AllDoneIn (goes_on connections) (entries_under (receiver_name c) whole)
-      received_done c earlier last (Ended rest) ok i = settled_done c earlier last (Ended rest) (entered b threads whole c connections earlier last (Ended rest) i)
-      received_done c earlier last (LostSync field at) ok i = settled_done c earlier last (LostSync field at) (entered b threads whole c connections earlier last (LostSync field at) i)
+      received_done c earlier last (Ended rest) ok i = settled_done c earlier last (entered b threads whole c connections earlier last (Ended rest) i)
+      received_done c earlier last (LostSync field at) ok i = settled_done c earlier last (entered b threads whole c connections earlier last (LostSync field at) i)
       received_done c earlier last SourceFault ok i = absurd ok
       received_done c earlier last Long ok i = absurd ok
       received_done c earlier last (Fault fault) ok i = absurd ok
@@ -394,7 +392,7 @@ module _ {S K : Type 0} (incoming : SourceMeanings S) (sink_tells : Type 0) (wri
           (circuit c t.0 t.1 t.2 t.3).over observed t.4
 
       -- what was done was neither in doubt nor left unsaid
-      sound : (disk engine.station ≡ b.disk) × (say engine.station ≡ b.say)
+      sound : (station.disk_faults engine.station ≡ b.disk) × (station.say_faults engine.station ≡ b.say)
       sound = (
         f.drained.stands.disk_still (λ (front, events, back, is). never_doubt (goes_on connections) events (at_rest.done_all (length front) (of_entry.Doubt events) (in_middle front (of_entry.Doubt events) back (entries whole) (sym is)))),
         f.drained.stands.say_still (λ (front, event, back, is). never_unsaid (goes_on connections) event (at_rest.done_all (length front) (of_entry.Unsaid event) (in_middle front (of_entry.Unsaid event) back (entries whole) (sym is)))),
@@ -409,7 +407,7 @@ module _ {S K : Type 0} (incoming : SourceMeanings S) (sink_tells : Type 0) (wri
         | inr from ↦ (f.others c (omega (arith, from, many_sinks))).faults ∙ (opened.others c from).faults
       ]
 
-    pub served : (full : Bool) → (full ≡ true → length threads ≡ MOST_TURNS) → Serves observed calls disk say b incoming sink_tells connections before now threads full engine end
+    pub served : (full : Bool) → (full ≡ true → length threads ≡ MOST_TURNS) → Serves station b incoming outgoing.observed connections before now threads full engine end
     served full spent = record {
       drained = drained;
       ends = ends;
@@ -418,7 +416,7 @@ module _ {S K : Type 0} (incoming : SourceMeanings S) (sink_tells : Type 0) (wri
       takes = λ k x at. let t = f.drained.takes k x at in (t.0, omega (arith, t.1, many_sinks, many_ends), t.2, t.3);
       circuits = λ c x at.
           let e = ends_at ins f.sinks c x at in
-          let C : ReceiveEnd × SendEnd → Type 0 = λ z. ServesCircuit b incoming sink_tells connections threads whole before now c z.0 z.1 in
+          let C : ReceiveEnd × SendEnd → Type 0 = λ z. ServesCircuit b incoming outgoing.observed connections threads whole before now c z.0 z.1 in
           subst C e.4 (circuit c e.0 e.1 e.2 e.3);
       others = λ c from. same_twice before mid now c (opened.others c (omega (arith, from, many_ends))) (f.others c (omega (arith, from, many_ends, many_sinks)));
       names = all_names;

@@ -1,6 +1,6 @@
 -- What an engine stands for, with the entry that a call adds.
 use Rattle.std.proofs.Common.{◌≡◌, ◌≢◌, ◌⊎◌, inl, inr, ⊎_elim, ℕ, ◌+◌, ◌≤◌, true, false, List, [], ◌∷◌, ◌++◌, length, Option, Some, None, Result, Ok, Err, refl, sym, ap, subst, ◌∙◌, arith, length-append, IsErrOf, IfOk, IfSome}
-use Rattle.gts_circuits.specs.Cited.{Accepted, Adds, AreCramped, Asked, Beginning, Call, Caller, Choice, Device, Directory, DiskFault, Doubt, Draw, Draws, Duplicate, Engine, Entry, Event, Full, HasCallCause, HasDoubt, HasUnsaid, HearsWithRoom, Idle, IsAccepted, IsCalled, IsCrampedFor, Keeps, LeavesFrame, LineLost, NoMemory, Nothing, Nothing_waits, Origin, Outcome, Outside, Refused, Repeats, Resend, Rose, SayFault, Says, Spent, Stands, State, Stopped, SwitchFault, Taken, Unsaid, after, after_all, channel_bytes, choice, entry_by, entry_of, frame_of_draw, meanings_of, on, origin_with, outcome, room, shown, spoken, state_at, used_at}
+use Rattle.gts_circuits.specs.Cited.{Accepted, Adds, AreCramped, Asked, Beginning, Caller, Choice, Device, Directory, DiskFault, Doubt, Draw, Draws, Duplicate, Engine, Entry, Event, Full, HasDoubt, HasStationCause, HasUnsaid, HearsWithRoom, Idle, IsAccepted, IsCalled, IsCrampedFor, Keeps, LeavesFrame, LineLost, NoMemory, Nothing, Nothing_waits, Origin, Outcome, Outside, Refused, Repeats, Resend, Rose, SayFault, Says, Spent, Stands, State, StationMeanings, Stopped, SwitchFault, Taken, Unsaid, after, after_all, channel_bytes, choice, entry_by, entry_of, frame_of_draw, meanings_of, on, origin_with, outcome, room, shown, spoken, state_at, used_at}
 use Rattle.std.proofs.lemmas.List.{append_assoc}
 use Rattle.gts_event.specs.Cited.{begun}
 use Rattle.gts_traits.proofs.LawLemmas.{channel_bytes-on}
@@ -10,7 +10,7 @@ use Rattle.gts_traits.proofs.LawLemmas.{channel_bytes-on}
 abbrev pub IsLast : List Entry → Entry → List Entry → Entry → Type 0
 IsLast xs x front y = (x ≡ y) ⊎ ((z : List Entry) × (xs ≡ front ++ y ∷ z))
 
-none_behind : (front : List Entry) (y : Entry) (back : List Entry) → [] ≡ front ++ y ∷ back → ⊥
+pub none_behind : (front : List Entry) (y : Entry) (back : List Entry) → [] ≡ front ++ y ∷ back → ⊥
 none_behind front y back e = let n : 0 ≡ length front + length (y ∷ back) = ap length e ∙ length-append front (y ∷ back) in omega (arith, n)
 
 pub split_last : (xs : List Entry) (x : Entry) (front : List Entry) (y : Entry) (back : List Entry) → xs ++ x ∷ [] ≡ front ++ y ∷ back → IsLast xs x front y
@@ -148,9 +148,15 @@ cramped_more b h event result before now makes front other used need limit back 
     (λ earlier. before makes front other used need limit earlier.0 earlier.1)
     (split_end h (entry_by event result) front (Idle other (Full used need limit)) back is)
 
-module _ {P : Type 0} (observed : Type 0) (calls : P → List Call) (disk say : P → ℕ) (b : Beginning) where
+-- what a take comes to, by what it finds
+abbrev pub leads_to : Choice → Outcome
+leads_to (Repeats index) = Resend index
+leads_to (Draws index position) = Draw index
+leads_to Nothing_waits = Nothing
+
+module _ {P : Type 0} (station : StationMeanings P) (b : Beginning) where
   outcome_of : (h : List Entry) (event : Event) (result : Result Outcome SwitchFault) (old new : Engine P)
-      → IsCalled (meanings_of observed calls Caller) event result old new → Stands observed calls disk say b h old
+      → IsCalled (meanings_of station Caller) event result old new → Stands station b h old
       → (a : Outcome) → result ≡ Ok a → a ≡ outcome b.origin.directory (state_at b.origin h) event
   outcome_of h event result old new turn stands a ok =
       let D : Directory → Type 0 = λ d. a ≡ outcome d (after_all d (begun b.origin.start) h) event in
@@ -158,12 +164,12 @@ module _ {P : Type 0} (observed : Type 0) (calls : P → List Call) (disk say : 
 
   -- the engine stands for the entry of an answer more
   more_stands : (h : List Entry) (event : Event) (result : Result Outcome SwitchFault) (old new : Engine P)
-      → HasCallCause result (disk old.station) (disk new.station) (say old.station) (say new.station)
-      → (compactions : List ℕ) → Keeps observed Caller (origin_with b compactions) (h ++ entry_of event result) (shown calls new)
+      → HasStationCause station result old.station new.station
+      → (compactions : List ℕ) → Keeps station.observed Caller (origin_with b compactions) (h ++ entry_of event result) (shown station.calls new)
       → (b.makes_room ≡ false → compactions ≡ []) → (b.makes_room ≡ true → (used need limit : ℕ) → result ≡ Err (Full used need limit) → IsCrampedFor b h event)
-      → result ≢ Err Spent → Stands observed calls disk say b h old → Stands observed calls disk say b (h ++ entry_by event result ∷ []) new
+      → result ≢ Err Spent → Stands station b h old → Stands station b (h ++ entry_by event result ∷ []) new
   more_stands h event result old new cause compactions kept none full spent stands =
-      let K : List Entry → Type 0 = λ es. Keeps observed Caller (origin_with b compactions) (h ++ es) (shown calls new) in
+      let K : List Entry → Type 0 = λ es. Keeps station.observed Caller (origin_with b compactions) (h ++ es) (shown station.calls new) in
       let all : List Entry = h ++ entry_by event result ∷ [] in
       record {
         compactions = compactions;
@@ -171,21 +177,21 @@ module _ {P : Type 0} (observed : Type 0) (calls : P → List Call) (disk say : 
         none = none;
         cramped = cramped_more b h event result stands.cramped full;
         disk_later = omega (arith, stands.disk_later, cause.disk_later);
-        disk_failed = doubt_rose b.disk h event result (disk old.station) (disk new.station) stands.disk_later stands.disk_failed cause.disk_later cause.disk_failed;
-        disk_still = still_on b.disk (disk old.station) (disk new.station) (HasDoubt all) (HasDoubt h) (IsErrOf result DiskFault)
+        disk_failed = doubt_rose b.disk h event result (station.disk_faults old.station) (station.disk_faults new.station) stands.disk_later stands.disk_failed cause.disk_later cause.disk_failed;
+        disk_still = still_on b.disk (station.disk_faults old.station) (station.disk_faults new.station) (HasDoubt all) (HasDoubt h) (IsErrOf result DiskFault)
             (doubt_on h (entry_by event result ∷ [])) (tells_doubt h event result) stands.disk_still cause.disk_still;
         say_later = omega (arith, stands.say_later, cause.say_later);
-        say_failed = unsaid_rose b.say h event result (say old.station) (say new.station) stands.say_later stands.say_failed cause.say_later cause.say_failed;
-        say_still = still_on b.say (say old.station) (say new.station) (HasUnsaid all) (HasUnsaid h) (IsErrOf result SayFault)
+        say_failed = unsaid_rose b.say h event result (station.say_faults old.station) (station.say_faults new.station) stands.say_later stands.say_failed cause.say_later cause.say_failed;
+        say_still = still_on b.say (station.say_faults old.station) (station.say_faults new.station) (HasUnsaid all) (HasUnsaid h) (IsErrOf result SayFault)
             (unsaid_on h (entry_by event result ∷ [])) (tells_unsaid h event result) stands.say_still cause.say_still;
       }
 
   pub adds : (h : List Entry) (event : Event) (Holds : Outcome → State → Type 0) (result : Result Outcome SwitchFault) (old new : Engine P)
-      → IsCalled (meanings_of observed calls Caller) event result old new
-      → HasCallCause result (disk old.station) (disk new.station) (say old.station) (say new.station)
+      → IsCalled (meanings_of station Caller) event result old new
+      → HasStationCause station result old.station new.station
       → ((o : Outcome) → result ≡ Ok o → Holds o (state_at b.origin h))
       → (b.makes_room ≡ true → (d : Directory) (s : State) → IsAccepted (outcome d s event) → ⊥)
-      → Stands observed calls disk say b h old → Adds observed calls disk say b h event Holds result new
+      → Stands station b h old → Adds station b h event Holds result new
   adds h event Holds result old new turn cause leaves never stands =
       let o : Origin = origin_with b stands.compactions in
       let spent : result ≢ Err Spent = λ e. turn.caused o h stands.keeps Spent e in
@@ -200,10 +206,10 @@ module _ {P : Type 0} (observed : Type 0) (calls : P → List Call) (disk say : 
 
   -- a call that makes room
   pub adds_with_room : (h : List Entry) (event : Event) (Holds : Outcome → State → Type 0) (result : Result Outcome SwitchFault) (old new : Engine P)
-      → HearsWithRoom observed calls event result old new
-      → HasCallCause result (disk old.station) (disk new.station) (say old.station) (say new.station)
+      → HearsWithRoom station event result old new
+      → HasStationCause station result old.station new.station
       → ((o : Outcome) (s : State) → Holds o s) → b.makes_room ≡ true
-      → Stands observed calls disk say b h old → Adds observed calls disk say b h event Holds result new
+      → Stands station b h old → Adds station b h event Holds result new
   adds_with_room h event Holds result old new heard cause leaves makes stands =
       let o : Origin = origin_with b stands.compactions in
       let turn = heard Caller in
@@ -239,21 +245,21 @@ module _ {P : Type 0} (observed : Type 0) (calls : P → List Call) (disk say : 
 
       go : (ch : Choice) → choice d s c ≡ ch → (o : Outcome) → o ≡ outcome d s (Taken c) → (o ≢ Nothing → spoken d s (Taken c) ≡ on (c + 1) out) → LeavesFrame d c out o s
       go (Repeats index) e o is says =
-          let o_is : o ≡ Resend index = is ∙ ap (λ (x : Choice). elim x [ Repeats index ↦ Resend index | Draws index position ↦ Draw index | Nothing_waits ↦ Nothing ]) e in
+          let o_is : o ≡ Resend index = is ∙ ap leads_to e in
           subst (λ (x : Outcome). LeavesFrame d c out x s) (sym o_is) (same (frame_of_draw d (after d s (Taken c)) c index) (sym (ap said_of e) ∙ says (λ n. let z : Resend index ≡ Nothing = sym o_is ∙ n in cc z)))
       go (Draws index position) e o is says =
-          let o_is : o ≡ Draw index = is ∙ ap (λ (x : Choice). elim x [ Repeats index ↦ Resend index | Draws index position ↦ Draw index | Nothing_waits ↦ Nothing ]) e in
+          let o_is : o ≡ Draw index = is ∙ ap leads_to e in
           subst (λ (x : Outcome). LeavesFrame d c out x s) (sym o_is) (same (frame_of_draw d (after d s (Taken c)) c index) (sym (ap said_of e) ∙ says (λ n. let z : Draw index ≡ Nothing = sym o_is ∙ n in cc z)))
       go Nothing_waits e o is says =
-          let o_is : o ≡ Nothing = is ∙ ap (λ (x : Choice). elim x [ Repeats index ↦ Resend index | Draws index position ↦ Draw index | Nothing_waits ↦ Nothing ]) e in
+          let o_is : o ≡ Nothing = is ∙ ap leads_to e in
           subst (λ (x : Outcome). LeavesFrame d c out x s) (sym o_is) tt
 
   -- what is given is what the state says
   pub leaves : (h : List Entry) (c : ℕ) (out : List ℕ) (result : Result Outcome SwitchFault) (old new : Engine P)
-      → IsCalled (meanings_of observed calls Caller) (Taken c) result old new
+      → IsCalled (meanings_of station Caller) (Taken c) result old new
       → IfOk result (λ o. o ≢ Nothing → Says old.core c out)
       → IfSome old.stopped (λ by. (result ≡ Err (Stopped by)) × (new ≡ old))
-      → Stands observed calls disk say b h old
+      → Stands station b h old
       → (o : Outcome) → result ≡ Ok o → LeavesFrame b.origin.directory c out o (state_at b.origin h)
   leaves h c out (Err f) old new turn says stopped stands o ok = absurd (let e : Err f ≡ Ok o = ok in cc e)
   leaves h c out (Ok p) old new turn says stopped stands o ok =
@@ -272,17 +278,12 @@ module _ {P : Type 0} (observed : Type 0) (calls : P → List Call) (disk say : 
   pub takes_accept_nothing : (d : Directory) (s : State) (c : ℕ) → IsAccepted (outcome d s (Taken c)) → ⊥
   takes_accept_nothing d s c accepted = go (choice d s c) refl accepted
     where
-      leads_to : Choice → Outcome
-      leads_to (Repeats index) = Resend index
-      leads_to (Draws index position) = Draw index
-      leads_to Nothing_waits = Nothing
-
       go : (ch : Choice) → choice d s c ≡ ch → IsAccepted (outcome d s (Taken c)) → ⊥
       go (Repeats index) e a = subst (λ (x : Choice). IsAccepted (leads_to x)) e a
       go (Draws index position) e a = subst (λ (x : Choice). IsAccepted (leads_to x)) e a
       go Nothing_waits e a = subst (λ (x : Choice). IsAccepted (leads_to x)) e a
 
   pub take_takes_none : (h : List Entry) (c : ℕ) (result : Result Outcome SwitchFault) (old new : Engine P)
-      → IsCalled (meanings_of observed calls Caller) (Taken c) result old new → Stands observed calls disk say b h old → result ≢ Err NoMemory
+      → IsCalled (meanings_of station Caller) (Taken c) result old new → Stands station b h old → result ≢ Err NoMemory
   take_takes_none h c result old new turn stands e =
       takes_accept_nothing old.directory (after_all old.directory (begun b.origin.start) h) c (turn.caused (origin_with b stands.compactions) h stands.keeps NoMemory e)

@@ -4,18 +4,13 @@ use Rattle.std.proofs.lemmas.List.{append-nil, replicate_more}
 use Rattle.std.proofs.lemmas.Option.{get_or_from_slice_get, slice_get-map}
 use Rattle.std.specs.Prelude.{IfSome, Option, drop, option_map, slice_get}
 use Rattle.gts_calls.specs.Cited.{frames_in}
-use Rattle.gts_circuits.specs.Cited.{Accepted, AddsTaken, AfterCall, AfterSettling, Alone, AreTaken, Asked, AtOnce, Beginning, Behind, Call, Caller, Choice, Circuit, Device, Directory, DiskFault, Done, Doubt, Draw, Draws, Duplicate, Engine, Entry, Event, Frame, Full, GathersOne, Gave, GaveAll, HasCallCause, HasTaken, Holds, Idle, IsAnswered, IsOneMore, IsSettling, LeavesFrame, LeavesTaken, LineLost, NoMemory, Nothing, Nothing_waits, Origin, Outcome, Refused, Repeats, Resend, SayFault, Says, Spent, Stands, StandsWith, State, Stopped, SwitchFault, Taken, TakesBehind, after, after_all, after_takes, all_done, choice, count_of, frame_of_draw, frames_by, given_index, gives, joined, meanings_of, origin_with, outcome, shown, state_at, state_behind, takes, used_at}
+use Rattle.gts_circuits.specs.Cited.{Accepted, AddsTaken, AfterCall, AfterSettling, Alone, AreTaken, Asked, AtOnce, Beginning, Behind, Caller, Choice, Circuit, Device, Directory, DiskFault, Done, Doubt, Draw, Draws, Duplicate, Engine, Entry, Event, Frame, Full, GathersOne, Gave, GaveAll, HasStationCause, HasTaken, Holds, Idle, IsAnswered, IsOneMore, IsSettling, LeavesFrame, LeavesTaken, LineLost, NoMemory, Nothing, Nothing_waits, Origin, Outcome, Refused, Repeats, Resend, SayFault, Says, Spent, Stands, StandsWith, State, StationMeanings, Stopped, SwitchFault, Taken, TakesBehind, after, after_all, after_takes, all_done, choice, count_of, frame_of_draw, frames_by, given_index, gives, joined, meanings_of, origin_with, outcome, shown, state_at, state_behind, takes, used_at}
 use Rattle.gts_engine.specs.Cited.{AreGathered}
 use Rattle.gts_event.specs.Cited.{begun}
-use Rattle.gts_circuits.proofs.StandingLemmas.{rose_on, full_accepts, frame_said, takes_accept_nothing}
+use Rattle.gts_circuits.proofs.StandingLemmas.{leads_to, rose_on, full_accepts, frame_said, takes_accept_nothing}
 use Rattle.gts_circuits.proofs.GatheringLemmas.{M, answered, settles}
 
 -- ---- what a take came to
-
-abbrev leads_to : Choice → Outcome
-leads_to (Repeats index) = Resend index
-leads_to (Draws index position) = Draw index
-leads_to Nothing_waits = Nothing
 
 -- a take that gave nothing found nothing
 nothing_given : (d : Directory) (s : State) (c : ℕ) → gives (outcome d s (Taken c)) ≡ false → outcome d s (Taken c) ≡ Nothing
@@ -101,7 +96,7 @@ module _ (d : Directory) (s : State) (c : ℕ) (frames : List Frame) (o : Outcom
       same (LineLost field) e = ap length (append-nil frames)
       same Nothing e = ap length (append-nil frames)
 
-module _ {P : Type 0} (observed : Type 0) (calls : P → List Call) (disk say : P → ℕ) (b : Beginning) (h : List Entry) (c : ℕ) where
+module _ {P : Type 0} (station : StationMeanings P) (b : Beginning) (h : List Entry) (c : ℕ) where
   abbrev d : Directory
   d = b.origin.directory
 
@@ -115,18 +110,18 @@ module _ {P : Type 0} (observed : Type 0) (calls : P → List Call) (disk say : 
   engine e = e
 
   abbrev has : List Frame → Bool → Engine P → Type 0
-  has frames gave e = HasTaken observed calls disk say b h c frames gave e
+  has frames gave e = HasTaken station b h c frames gave e
 
   -- ---- the first take
 
-  module _ (result : Result Outcome SwitchFault) (old new : Engine P) (out : List ℕ) (stands : Stands observed calls disk say b h old)
-      (called : IsAnswered (meanings_of observed calls Caller) (Taken c) result old new)
-      (cause : HasCallCause result (disk old.station) (disk new.station) (say old.station) (say new.station)) where
-    ans : IsAnswered (M engine makes observed calls disk say) (Taken c) result old new
-    ans = answered engine makes observed calls disk say (Taken c) result old new refl cause
-        (λ m x t a. takes_accept_nothing observed calls disk say b x t c a) called
+  module _ (result : Result Outcome SwitchFault) (old new : Engine P) (out : List ℕ) (stands : Stands station b h old)
+      (called : IsAnswered (meanings_of station Caller) (Taken c) result old new)
+      (cause : HasStationCause station result old.station new.station) where
+    ans : IsAnswered (M engine makes station) (Taken c) result old new
+    ans = answered engine makes station (Taken c) result old new refl cause
+        (λ m x t a. takes_accept_nothing station b x t c a) called
 
-    after_first : AfterCall (M engine makes observed calls disk say) b h [] (Taken c) result new
+    after_first : AfterCall (M engine makes station) b h [] (Taken c) result new
     after_first = ans.adds b h [] (stands, refl)
 
     took_on : (o : Outcome) → result ≡ Ok o → (by : Option Device) → IfSome by (λ x. (result ≡ Err (Stopped x)) × (new ≡ old)) → by ≡ None
@@ -136,13 +131,13 @@ module _ {P : Type 0} (observed : Type 0) (calls : P → List Call) (disk say : 
     pub first_taken : (o : Outcome) → result ≡ Ok o → (o ≢ Nothing → Says old.core c out) → IfSome old.stopped (λ by. (result ≡ Err (Stopped by)) × (new ≡ old)) → joined new.held ≡ [] → has ([] ++ frames_by o out) (gives o) new
     first_taken o is says stopped silent =
         let going : old.stopped ≡ None = took_on o is old.stopped stopped in
-        let one : GathersOne (M engine makes observed calls disk say) b h [] (Taken c) new =
-        subst (λ (r : Result Outcome SwitchFault). AfterCall (M engine makes observed calls disk say) b h [] (Taken c) r new) is after_first in
+        let one : GathersOne (M engine makes station) b h [] (Taken c) new =
+        subst (λ (r : Result Outcome SwitchFault). AfterCall (M engine makes station) b h [] (Taken c) r new) is after_first in
         let outcome_is : o ≡ outcome d s (Taken c) =
         let D : Directory → Type 0 = λ x. o ≡ outcome x (after_all x (begun b.origin.start) h) (Taken c) in
         subst D stands.keeps.directory (subst (λ (l : List Entry). o ≡ outcome old.directory (after_all old.directory (begun b.origin.start) l) (Taken c)) (append-nil h)
         (ans.outcome b h [] (stands, refl) o is)) in
-        let leaves : LeavesFrame d c out o s = frame_said observed calls disk say b d s c out o outcome_is (λ some. says some d s (stands.keeps.core going)) in
+        let leaves : LeavesFrame d c out o s = frame_said station b d s c out o outcome_is (λ some. says some d s (stands.keeps.core going)) in
         record {
           front = one.front;
           events = one.more;
@@ -161,65 +156,65 @@ module _ {P : Type 0} (observed : Type 0) (calls : P → List Call) (disk say : 
 
     -- it is answered with a fault only where the engine had stopped
     pub first_fails : (fault : SwitchFault) → result ≡ Err fault → (IsErrOf result SayFault → ⊥) → (r : Result Bool SwitchFault) → r ≡ Err fault
-        → (more : List Entry) × LeavesTaken observed calls disk say b h c [] r new more
-    first_fails fault is never r failed = subst (λ (x : Result Bool SwitchFault). (more : List Entry) × LeavesTaken observed calls disk say b h c [] x new more) (sym failed) (go fault is left)
+        → (more : List Entry) × LeavesTaken station b h c [] r new more
+    first_fails fault is never r failed = subst (λ (x : Result Bool SwitchFault). (more : List Entry) × LeavesTaken station b h c [] x new more) (sym failed) (go fault is left)
       where
-        left : AfterCall (M engine makes observed calls disk say) b h [] (Taken c) (Err fault) new
-        left = subst (λ (x : Result Outcome SwitchFault). AfterCall (M engine makes observed calls disk say) b h [] (Taken c) x new) is after_first
+        left : AfterCall (M engine makes station) b h [] (Taken c) (Err fault) new
+        left = subst (λ (x : Result Outcome SwitchFault). AfterCall (M engine makes station) b h [] (Taken c) x new) is after_first
 
-        go : (f : SwitchFault) → result ≡ Err f → AfterCall (M engine makes observed calls disk say) b h [] (Taken c) (Err f) new
-            → (more : List Entry) × LeavesTaken observed calls disk say b h c [] (Err f) new more
+        go : (f : SwitchFault) → result ≡ Err f → AfterCall (M engine makes station) b h [] (Taken c) (Err f) new
+            → (more : List Entry) × LeavesTaken station b h c [] (Err f) new more
         go DiskFault e a = absurd (a.some refl)
         go SayFault e a = absurd (never (subst (λ (x : Result Outcome SwitchFault). IsErrOf x SayFault) (sym e) refl))
         go (Full used need limit) e a =
-            absurd (takes_accept_nothing observed calls disk say b d (state_at b.origin (h ++ [])) c
+            absurd (takes_accept_nothing station b d (state_at b.origin (h ++ [])) c
             (full_accepts d (state_at b.origin (h ++ [])) (used_at (origin_with b stands.compactions) (h ++ [])) (Taken c) (outcome d (state_at b.origin (h ++ [])) (Taken c)) (Full used need limit) (called.caused (origin_with b stands.compactions) h [] stands.keeps (Full used need limit) e)))
         go (Stopped by) e a = (
           Idle (Taken c) (Stopped by) ∷ [],
           record {
             added = (refl, refl);
-            stands = subst (λ (l : List Entry). Stands observed calls disk say b (l ++ Idle (Taken c) (Stopped by) ∷ []) new) (append-nil h) a.0;
+            stands = subst (λ (l : List Entry). Stands station b (l ++ Idle (Taken c) (Stopped by) ∷ []) new) (append-nil h) a.0;
           },
         )
         go Spent e a = absurd a
-        go NoMemory e a = absurd (takes_accept_nothing observed calls disk say b old.directory (after_all old.directory (begun b.origin.start) (h ++ [])) c (called.caused (origin_with b stands.compactions) h [] stands.keeps NoMemory e))
+        go NoMemory e a = absurd (takes_accept_nothing station b old.directory (after_all old.directory (begun b.origin.start) (h ++ [])) c (called.caused (origin_with b stands.compactions) h [] stands.keeps NoMemory e))
 
   -- ---- one behind it
 
-  pub one_behind : (frames : List Frame) (o : Outcome) (out : List ℕ) (old new : Engine P) → has frames true old → TakesBehind observed calls c o old new → old.gathered ≡ true
-      → (o ≢ Nothing → Says old.core c out) → disk new.station ≡ disk old.station → say new.station ≡ say old.station → joined new.held ≡ []
+  pub one_behind : (frames : List Frame) (o : Outcome) (out : List ℕ) (old new : Engine P) → has frames true old → TakesBehind station c o old new → old.gathered ≡ true
+      → (o ≢ Nothing → Says old.core c out) → station.disk_faults new.station ≡ station.disk_faults old.station → station.say_faults new.station ≡ station.say_faults old.station → joined new.held ≡ []
       → has (frames ++ frames_by o out) (gives o) new
   one_behind frames o out old new t behind gathered says disks saying silent = go t.taken
     where
       origin : Origin
       origin = origin_with b t.stands.compactions
 
-      some : AreGathered (shown calls old) origin.directory (state_at origin t.front) t.events
+      some : AreGathered (shown station.calls old) origin.directory (state_at origin t.front) t.events
       some = t.stands.keeps.gathered
 
       never : t.events ≡ [] → ⊥
       never e =
-          let none : old.gathered ≡ false = subst (λ (es : List Event). AreGathered (shown calls old) origin.directory (state_at origin t.front) es) e some in
+          let none : old.gathered ≡ false = subst (λ (es : List Event). AreGathered (shown station.calls old) origin.directory (state_at origin t.front) es) e some in
           let no : true ≡ false = sym gathered ∙ none in cc no
 
-      goes_on : (es : List Event) → AreGathered (shown calls old) origin.directory (state_at origin t.front) es → old.stopped ≡ None
+      goes_on : (es : List Event) → AreGathered (shown station.calls old) origin.directory (state_at origin t.front) es → old.stopped ≡ None
       goes_on [] a = absurd (let no : true ≡ false = sym gathered ∙ a in cc no)
       goes_on (e ∷ es) a = a.1
 
       going : old.stopped ≡ None
       going = goes_on t.events some
 
-      stood : StandsWith observed calls disk say b t.front (t.events ++ Taken c ∷ []) new
+      stood : StandsWith station b t.front (t.events ++ Taken c ∷ []) new
       stood = record {
         compactions = t.stands.compactions;
         keeps = behind.gathers origin t.front t.events t.stands.keeps;
         none = t.stands.none;
         cramped = t.stands.cramped;
         disk_later = omega (arith, t.stands.disk_later, disks);
-        disk_failed = λ e. rose_on b.disk (disk old.station) (disk new.station) (t.stands.disk_failed e) (omega (arith, disks));
+        disk_failed = λ e. rose_on b.disk (station.disk_faults old.station) (station.disk_faults new.station) (t.stands.disk_failed e) (omega (arith, disks));
         disk_still = λ n. disks ∙ t.stands.disk_still n;
         say_later = omega (arith, t.stands.say_later, saying);
-        say_failed = λ e. rose_on b.say (say old.station) (say new.station) (t.stands.say_failed e) (omega (arith, saying));
+        say_failed = λ e. rose_on b.say (station.say_faults old.station) (station.say_faults new.station) (t.stands.say_failed e) (omega (arith, saying));
         say_still = λ n. saying ∙ t.stands.say_still n;
       }
 
@@ -232,7 +227,7 @@ module _ {P : Type 0} (observed : Type 0) (calls : P → List Call) (disk say : 
           let outcome_is : o ≡ outcome d (after_takes d s c n) (Taken c) =
           subst (λ (x : State). o ≡ outcome d x (Taken c)) here (behind.outcome origin t.front t.events t.stands.keeps) in
           let leaves : LeavesFrame d c out o (after_takes d s c n) =
-          frame_said observed calls disk say b d (after_takes d s c n) c out o outcome_is
+          frame_said station b d (after_takes d s c n) c out o outcome_is
           (λ given. says given d (after_takes d s c n) (subst (λ (x : State). Holds d old.core x) here (t.stands.keeps.core going))) in
           record {
             front = t.front;
@@ -250,50 +245,50 @@ module _ {P : Type 0} (observed : Type 0) (calls : P → List Call) (disk say : 
   abbrev most : ℕ
   most = slice_index_or (map (λ (row : Circuit). row.repeat) d.circuits) c 0
 
-  pub settles_taken : (frames : List Frame) (gave : Bool) (old new : Engine P) → has frames gave old → IsSettling (meanings_of observed calls Caller) (Ok tt) old new
-      → HasCallCause (let a : Result (Unit {0}) SwitchFault = Ok tt in a) (disk old.station) (disk new.station) (say old.station) (say new.station)
-      → count_of frames gave ≤ most → (more : List Entry) × LeavesTaken observed calls disk say b h c frames (Ok gave) new more
+  pub settles_taken : (frames : List Frame) (gave : Bool) (old new : Engine P) → has frames gave old → IsSettling (meanings_of station Caller) (Ok tt) old new
+      → HasStationCause station (let a : Result (Unit {0}) SwitchFault = Ok tt in a) old.station new.station
+      → count_of frames gave ≤ most → (more : List Entry) × LeavesTaken station b h c frames (Ok gave) new more
   settles_taken frames gave old new t settling cause few = (takes c (count_of frames gave), record { added = added gave t few t.some; stands = stood })
     where
-      left : AfterSettling (M engine makes observed calls disk say) b t.front t.events (Ok tt) new
-      left = (settles engine makes observed calls disk say (Ok tt) old new refl cause settling).settles b t.front t.events (t.stands, refl)
+      left : AfterSettling (M engine makes station) b t.front t.events (Ok tt) new
+      left = (settles engine makes station (Ok tt) old new refl cause settling).settles b t.front t.events (t.stands, refl)
 
       all : AreTaken h c (count_of frames gave) t.front t.events → t.front ++ all_done t.events ≡ h ++ takes c (count_of frames gave)
       all (inl x) = ap (λ (l : List Entry). l ++ all_done t.events) x.0 ∙ ap (λ (es : List Event). h ++ all_done es) x.1 ∙ ap (λ (l : List Entry). h ++ l) (done_taken c (count_of frames gave))
       all (inr x) = ap (λ (es : List Event). t.front ++ all_done es) x.1 ∙ append-nil t.front ∙ x.0
 
-      stood : Stands observed calls disk say b (h ++ takes c (count_of frames gave)) new
-      stood = subst (λ (l : List Entry). Stands observed calls disk say b l new) (all t.taken) left.0
+      stood : Stands station b (h ++ takes c (count_of frames gave)) new
+      stood = subst (λ (l : List Entry). Stands station b l new) (all t.taken) left.0
 
       added : (g : Bool) → has frames g old → count_of frames g ≤ most → 1 ≤ count_of frames g → AddsTaken b h c frames (Ok g) (takes c (count_of frames g))
       added true u f m = (refl, u.all, m, omega (arith, f))
       added false u f m = (refl, record { gave = u.all; nothing = u.last refl }, omega (arith, f))
 
   pub settling_fails : (frames : List Frame) (gave : Bool) (old new : Engine P) (fault : SwitchFault) → has frames gave old
-      → IsSettling (meanings_of observed calls Caller) (let a : Result (Unit {0}) SwitchFault = Err fault in a) old new
-      → HasCallCause (let a : Result (Unit {0}) SwitchFault = Err fault in a) (disk old.station) (disk new.station) (say old.station) (say new.station)
+      → IsSettling (meanings_of station Caller) (let a : Result (Unit {0}) SwitchFault = Err fault in a) old new
+      → HasStationCause station (let a : Result (Unit {0}) SwitchFault = Err fault in a) old.station new.station
       → (IsErrOf (let a : Result (Unit {0}) SwitchFault = Err fault in a) SayFault → ⊥)
-      → count_of frames gave ≤ most → (more : List Entry) × LeavesTaken observed calls disk say b h c [] (Err fault) new more
+      → count_of frames gave ≤ most → (more : List Entry) × LeavesTaken station b h c [] (Err fault) new more
   settling_fails frames gave old new fault t settling cause never few = go fault left never
     where
-      left : AfterSettling (M engine makes observed calls disk say) b t.front t.events (Err fault) new
-      left = (settles engine makes observed calls disk say (Err fault) old new refl cause settling).settles b t.front t.events (t.stands, refl)
+      left : AfterSettling (M engine makes station) b t.front t.events (Err fault) new
+      left = (settles engine makes station (Err fault) old new refl cause settling).settles b t.front t.events (t.stands, refl)
 
-      doubt : (t.events ≡ [] → ⊥) → Stands observed calls disk say b (t.front ++ Doubt t.events ∷ []) new → (n : ℕ) → n ≤ most → AreTaken h c n t.front t.events
-          → (more : List Entry) × LeavesTaken observed calls disk say b h c [] (Err DiskFault) new more
+      doubt : (t.events ≡ [] → ⊥) → Stands station b (t.front ++ Doubt t.events ∷ []) new → (n : ℕ) → n ≤ most → AreTaken h c n t.front t.events
+          → (more : List Entry) × LeavesTaken station b h c [] (Err DiskFault) new more
       doubt some stands n few (inr x) = absurd (some x.1)
       doubt some stands zero few (inl x) = absurd (some x.1)
       doubt some stands (suc k) few (inl x) = (
         Doubt (Taken c ∷ replicate k (Taken c)) ∷ [],
         record {
           added = (k, omega (arith, few), refl, refl);
-          stands = subst (λ (l : List Entry). Stands observed calls disk say b l new)
+          stands = subst (λ (l : List Entry). Stands station b l new)
               (ap (λ (l : List Entry). l ++ Doubt t.events ∷ []) x.0 ∙ ap (λ (es : List Event). h ++ Doubt es ∷ []) x.1) stands;
         },
       )
 
-      go : (f : SwitchFault) → AfterSettling (M engine makes observed calls disk say) b t.front t.events (Err f) new
-          → (IsErrOf (let a : Result (Unit {0}) SwitchFault = Err f in a) SayFault → ⊥) → (more : List Entry) × LeavesTaken observed calls disk say b h c [] (Err f) new more
+      go : (f : SwitchFault) → AfterSettling (M engine makes station) b t.front t.events (Err f) new
+          → (IsErrOf (let a : Result (Unit {0}) SwitchFault = Err f in a) SayFault → ⊥) → (more : List Entry) × LeavesTaken station b h c [] (Err f) new more
       go DiskFault a n = doubt a.some a.leaves.0 (count_of frames gave) few t.taken
       go SayFault a n = absurd (n refl)
       go (Full used need limit) a n = absurd a

@@ -1,34 +1,19 @@
 -- What a turn makes of its pass.
 use Rattle.std.proofs.Common.{◌≡◌, inl, ℕ, ◌+◌, Bool, true, false, List, [], ◌∷◌, ◌++◌, length, replicate, Result, Ok, Err, refl, sym, ap, subst, ◌∙◌, length-append}
 use Rattle.std.proofs.lemmas.List.{append-nil, append_cancel_left}
-use contract.BorrowLft.{◌⊑◌, ⊑_meet, ⊑_static}
-use Rattle.gts_circuits.specs.Cited.{AddsAll, AddsAny, AddsEntries, AddsFed, AddsTaken, All, Answers, Beginning, Call, DeskTakes, DiskFault, Done, Doubt, Engine, Entry, Event, FeedEnd, Feeds, Frame, Full, GaveAll, GaveNoMore, Idle, IsCaused, IsTurn, Known, KnowsOwn, LeavesFrame, Lost, NoMemory, Outcome, SayFault, Seen, Spent, Stands, StartsWith, State, Stopped, SwitchFault, Taken, TakesSome, Unsaid, Wanting, after_adding, after_seeing, all_of, entries, entries_under, entry_by, flat, history_of, outcome, seen_by, state_at, takes, under}
+use Rattle.gts_circuits.specs.Cited.{AddsAll, AddsAny, AddsEntries, AddsFed, AddsTaken, All, Answers, Beginning, DeskTakes, DiskFault, Done, Doubt, Engine, Entry, Event, FeedEnd, Feeds, Frame, Full, GaveAll, GaveNoMore, Idle, IsCaused, IsTurn, Known, KnowsOwn, LeavesFrame, Lost, NoMemory, Outcome, SayFault, Seen, Spent, Stands, StartsWith, State, StationMeanings, Stopped, SwitchFault, Taken, TakesSome, Unsaid, Wanting, after_adding, after_seeing, all_of, entries, entries_under, entry_by, flat, history_of, outcome, seen_by, state_at, takes, under}
 use Rattle.gts_calls.specs.declared.fed.FeedEnd.TheVariants.{Fault}
 use Rattle.gts_circuits.specs.Housed as housed
 use Rattle.gts_circuits.proofs.FlatLemmas.{entries-append, under-append, all_of_one, flat-append, flat_one, entries_flat, under_flat}
 
--- a lifetime within those of both types
-pub within_both : (κ P B : List ℕ) → κ ⊑ P → κ ⊑ B
-    → κ ⊑ ((P ++ (B ++ [])) ++ (((P ++ []) ++ (((P ++ []) ++ (P ++ [])) ++ [])) ++ (((B ++ []) ++ []) ++ [])))
-within_both κ P B p b =
-    let s = ⊑_static κ in
-    let p' : κ ⊑ (P ++ []) = ⊑_meet κ P [] p s in
-    let pp : κ ⊑ ((P ++ []) ++ (P ++ [])) = ⊑_meet κ (P ++ []) (P ++ []) p' p' in
-    let b' : κ ⊑ (B ++ []) = ⊑_meet κ B [] b s in
-    ⊑_meet κ (P ++ (B ++ [])) (((P ++ []) ++ (((P ++ []) ++ (P ++ [])) ++ [])) ++ (((B ++ []) ++ []) ++ []))
-    (⊑_meet κ P (B ++ []) p b')
-    (⊑_meet κ ((P ++ []) ++ (((P ++ []) ++ (P ++ [])) ++ [])) (((B ++ []) ++ []) ++ [])
-    (⊑_meet κ (P ++ []) (((P ++ []) ++ (P ++ [])) ++ []) p' (⊑_meet κ ((P ++ []) ++ (P ++ [])) [] pp s))
-    (⊑_meet κ ((B ++ []) ++ []) [] (⊑_meet κ (B ++ []) [] b' s) s))
-
 -- ---- a turn
 
 -- the entries of one turn more
-pub stood : {P : Type 0} (observed : Type 0) (calls : P → List Call) (disk say : P → ℕ) (b : Beginning) (turns : List (List Entry)) (more : List Entry) (e : Engine P)
-    → Stands observed calls disk say b (all_of turns ++ more) e → Stands observed calls disk say b (all_of (turns ++ more ∷ [])) e
-stood observed calls disk say b turns more e s = subst (λ (l : List Entry). Stands observed calls disk say b l e) (sym (all_of_one turns more)) s
+pub stood : {P : Type 0} (station : StationMeanings P) (b : Beginning) (turns : List (List Entry)) (more : List Entry) (e : Engine P)
+    → Stands station b (all_of turns ++ more) e → Stands station b (all_of (turns ++ more ∷ [])) e
+stood station b turns more e s = subst (λ (l : List Entry). Stands station b l e) (sym (all_of_one turns more)) s
 
-module _ {P : Type 0} (observed : Type 0) (calls : P → List Call) (disk say : P → ℕ) (b : Beginning)
+module _ {P : Type 0} (station : StationMeanings P) (b : Beginning)
     (p q : Known (List Entry)) (h : List (ℕ × List Entry)) (new : Engine P) (later : StartsWith h p.seen) (knows : KnowsOwn p) (same : p.own ≡ entries_under p.name h) where
   none_between : entries_under p.name later.0 ≡ []
   none_between = append_cancel_left (entries_under p.name p.seen) (entries_under p.name later.0) []
@@ -43,7 +28,7 @@ module _ {P : Type 0} (observed : Type 0) (calls : P → List Call) (disk say : 
       let Q : List Entry → Type 0 = λ es. Says (state_at b.origin es) in
       subst Q (sym (entries_flat h) ∙ ap (λ (l : List (ℕ × Entry)). entries l) went) says
 
-  pub added : (more : List Entry) (Says : State → Type 0) → q ≡ after_adding (after_seeing p h) more → Stands observed calls disk say b (all_of (entries h) ++ more) new
+  pub added : (more : List Entry) (Says : State → Type 0) → q ≡ after_adding (after_seeing p h) more → Stands station b (all_of (entries h) ++ more) new
       → Says (state_at b.origin (all_of (entries h))) → AddsAll (seen_by b p) more Says (seen_by b q)
   added more Says is stands says =
       let R : ℕ → List (ℕ × Entry) → Seen = λ n l. record (seen_by b p) { turns = n; history = l } in
@@ -64,7 +49,7 @@ module _ {P : Type 0} (observed : Type 0) (calls : P → List Call) (disk say : 
         };
       }
 
-  pub answers : (event : Event) (Holds : Outcome → State → Type 0) (result : Result Outcome SwitchFault) → housed.Adds observed calls disk say b (all_of (entries h)) event Holds result new
+  pub answers : (event : Event) (Holds : Outcome → State → Type 0) (result : Result Outcome SwitchFault) → housed.Adds station b (all_of (entries h)) event Holds result new
       → q ≡ after_adding (after_seeing p h) (entry_by event result ∷ []) → Answers (seen_by b p) event Holds result (seen_by b q)
   answers event Holds (Ok o) adds is = added (Done event ∷ []) (λ s. (o ≡ outcome b.origin.directory s event) × Holds o s) is adds.stands (adds.answers o refl)
   answers event Holds (Err DiskFault) adds is = added (Doubt (event ∷ []) ∷ []) (λ s. Unit {0}) is adds.stands tt
@@ -76,7 +61,7 @@ module _ {P : Type 0} (observed : Type 0) (calls : P → List Call) (disk say : 
 
   -- a feed, whose end is not that no turn was left
   pub feeds : (c : ℕ) (events : List Event) (message : List ℕ) (end : FeedEnd) (more : List Entry) → AddsFed c events message end more
-      → q ≡ after_adding (after_seeing p h) more → Stands observed calls disk say b (all_of (entries h) ++ more) new → Feeds c events message end (seen_by b p) (seen_by b q)
+      → q ≡ after_adding (after_seeing p h) more → Stands station b (all_of (entries h) ++ more) new → Feeds c events message end (seen_by b p) (seen_by b q)
   feeds c events message end more fed is stands = go end fed
     where
       any : AddsAny (seen_by b p) more (seen_by b q)
@@ -98,7 +83,7 @@ module _ {P : Type 0} (observed : Type 0) (calls : P → List Call) (disk say : 
 
   -- takes
   pub takes_some : (c : ℕ) (frames : List Frame) (result : Result Bool SwitchFault) (more : List Entry) → AddsTaken b (all_of (entries h)) c frames result more
-      → q ≡ after_adding (after_seeing p h) more → Stands observed calls disk say b (all_of (entries h) ++ more) new → TakesSome c frames result (seen_by b p) (seen_by b q)
+      → q ≡ after_adding (after_seeing p h) more → Stands station b (all_of (entries h) ++ more) new → TakesSome c frames result (seen_by b p) (seen_by b q)
   takes_some c frames result more a is stands = go result a
     where
       plain : (entries_are : List Entry) → more ≡ entries_are → AddsEntries (seen_by b p) entries_are (seen_by b q)
@@ -118,14 +103,14 @@ module _ {P : Type 0} (observed : Type 0) (calls : P → List Call) (disk say : 
       go (Err NoMemory) x = absurd x
 
 -- the desk of the pass answers what the turn answered, a take's too
-turned : {P : Type 0} (observed : Type 0) (calls : P → List Call) (disk say : P → ℕ) (b : Beginning) (event : Event)
+turned : {P : Type 0} (station : StationMeanings P) (b : Beginning) (event : Event)
     (Holds : Outcome → State → Type 0) (result : Result Outcome SwitchFault) (p q : Known (List Entry))
-    → IsTurn observed calls disk say b event Holds result p q → Answers (seen_by b p) event Holds result (seen_by b q)
-turned observed calls disk say b event Holds result p q t =
-    answers observed calls disk say b p q t.history t.engine t.later t.knows t.own event Holds result t.adds t.is
+    → IsTurn station b event Holds result p q → Answers (seen_by b p) event Holds result (seen_by b q)
+turned station b event Holds result p q t =
+    answers station b p q t.history t.engine t.later t.knows t.own event Holds result t.adds t.is
 
-pub taken : {P : Type 0} (observed : Type 0) (calls : P → List Call) (disk say : P → ℕ) (b : Beginning) (c : ℕ) (out : List ℕ)
+pub taken : {P : Type 0} (station : StationMeanings P) (b : Beginning) (c : ℕ) (out : List ℕ)
     (result : Result Outcome SwitchFault) (p q : Known (List Entry))
-    → IsTurn observed calls disk say b (Taken c) (LeavesFrame b.origin.directory c out) result p q → DeskTakes b c out result p q
-taken observed calls disk say b c out result p q t =
-    turned observed calls disk say b (Taken c) (LeavesFrame b.origin.directory c out) result p q t
+    → IsTurn station b (Taken c) (LeavesFrame b.origin.directory c out) result p q → DeskTakes b c out result p q
+taken station b c out result p q t =
+    turned station b (Taken c) (LeavesFrame b.origin.directory c out) result p q t

@@ -1,12 +1,12 @@
 -- What a run says of why it ended: its history, and what in it a fault leaves.
 use Rattle.std.specs.Prelude.{◌≡◌, ℕ, ◌+◌, List, [], ◌∷◌, ◌++◌, length, Option, Some, None}
 use Rattle.gts_circuits.specs.Housed.{Beginning}
-use Rattle.gts_circuits.specs.Cited.Below.{Call, Engine, Entry, Event, Idle, IsStreamFront, Known, LONGEST_CONNECTION, Part, SourceMeanings, SwitchFault, all_done, entries_under, events_over, goes_on}
+use Rattle.gts_circuits.specs.Cited.Below.{Engine, Entry, Event, Idle, IsStreamFront, Known, LONGEST_CONNECTION, Part, SourceMeanings, StationMeanings, SwitchFault, all_done, entries_under, events_over, goes_on}
 use Rattle.gts_circuits.specs.Flat.{flat}
 use Rattle.gts_circuits.specs.Working.{receiver_name}
 use Rattle.gts_receiver.specs.Cited.{settled}
 use Rattle.gts_circuits.specs.declared.service.end.ServeEnd.{ServeEnd}
-use Rattle.gts_circuits.specs.Serving.{LinesSeen, IsServed}
+use Rattle.gts_circuits.specs.Serving.{IsServed, LinesSeen}
 
 -- the turns of all threads, and the entries of each: none where no circuit was served
 abbrev pub threads_of : Option (Known (List Entry)) → List (ℕ × List Entry)
@@ -14,13 +14,13 @@ threads_of (Some pass) = pass.seen
 threads_of None = []
 
 -- the history of a run: that of all threads and the takes behind it
-abbrev pub history_of : {P S : Type 0} (observed : Type 0) (calls : P → List Call) (disk say : P → ℕ) (b : Beginning)
+abbrev pub history_of : {P S : Type 0} (station : StationMeanings P) (b : Beginning)
     (incoming : SourceMeanings S) (sink_tells : Type 0) (connections : ℕ) (before now : LinesSeen) (pass : Option (Known (List Entry)))
     (end : ServeEnd) (engine : Engine P)
-    → IsServed observed calls disk say b incoming sink_tells connections before now pass end engine → List (ℕ × Entry)
-history_of observed calls disk say b incoming sink_tells connections before now (Some pass) end engine served =
+    → IsServed station b incoming sink_tells connections before now pass end engine → List (ℕ × Entry)
+history_of station b incoming sink_tells connections before now (Some pass) end engine served =
     flat pass.seen ++ served.drained
-history_of observed calls disk say b incoming sink_tells connections before now None end engine served = []
+history_of station b incoming sink_tells connections before now None end engine served = []
 
 -- One of these entries is an event that was answered with this fault and changed nothing. Of it and of the entries before it this
 -- holds.

@@ -1,6 +1,6 @@
 -- The engine as a hall's value: what it stands for, and what a call on it adds.
 use Rattle.std.specs.Prelude.{◌≡◌, refl, ◌≢◌, ℕ, ◌≤◌, Bool, true, false, List, [], ◌∷◌, ◌++◌, Result, Ok, Err, Some, IsSome}
-use Rattle.gts_circuits.specs.Cited.Below.{Call, Caller, Directory, DiskFault, Done, Doubt, Engine, Entry, Event, Full, Gathers, HasDoubt, HasUnsaid, Idle, IsFullCompacted, IsLeft, Origin, Outcome, Rose, SayFault, Spent, Standing, State, SwitchFault, Unsaid, directory_of, full, full_with_spare, nothing, outcome, shown, state_at, used_at}
+use Rattle.gts_circuits.specs.Cited.Below.{Caller, Directory, DiskFault, Done, Doubt, Engine, Entry, Event, Full, Gathers, HasDoubt, HasUnsaid, Idle, IsFullCompacted, IsLeft, Origin, Outcome, Rose, SayFault, Spent, Standing, State, StationMeanings, SwitchFault, Unsaid, directory_of, full, full_with_spare, nothing, outcome, shown, state_at, used_at}
 use Rattle.gts_event.specs.Cited.{begun}
 
 -- What a hall's history begins with: the engine's origin, with no compaction since, the counts of its station's faults by then,
@@ -51,22 +51,22 @@ Answers b entries event Holds result =
     → (o ≡ outcome b.origin.directory (state_at b.origin entries) event)
     × Holds o (state_at b.origin entries)
 
-module _ {P : Type 0} (observed : Type 0) (calls : P → List Call) (disk say : P → ℕ) (b : Beginning) where
+module _ {P : Type 0} (station : StationMeanings P) (b : Beginning) where
   -- An engine stands for these entries since the beginning, and for these events behind them, which are gathered: it stands for what an
   -- engine does whose caller says the frames, with the compactions that were done meanwhile, of which there are none where no room is
   -- made. Where it is, Full was answered only where a compacted journal would have been full with an eighth of the limit to
   -- spare. A device failed at an entry only where the count of its faults rose, and where none did at any, the count is as it was.
   pub record StandsWith (entries : List Entry) (events : List Event) (e : Engine P) : Type 0 where
     pub compactions : List ℕ
-    pub keeps : Gathers observed Caller (origin_with b compactions) entries events (shown calls e)
+    pub keeps : Gathers station.observed Caller (origin_with b compactions) entries events (shown station.calls e)
     pub none : b.makes_room ≡ false → compactions ≡ []
     pub cramped : b.makes_room ≡ true → AreCramped b entries
-    pub disk_later : b.disk ≤ disk e.station
-    pub disk_failed : HasDoubt entries → Rose b.disk (disk e.station)
-    pub disk_still : (HasDoubt entries → ⊥) → disk e.station ≡ b.disk
-    pub say_later : b.say ≤ say e.station
-    pub say_failed : HasUnsaid entries → Rose b.say (say e.station)
-    pub say_still : (HasUnsaid entries → ⊥) → say e.station ≡ b.say
+    pub disk_later : b.disk ≤ station.disk_faults e.station
+    pub disk_failed : HasDoubt entries → Rose b.disk (station.disk_faults e.station)
+    pub disk_still : (HasDoubt entries → ⊥) → station.disk_faults e.station ≡ b.disk
+    pub say_later : b.say ≤ station.say_faults e.station
+    pub say_failed : HasUnsaid entries → Rose b.say (station.say_faults e.station)
+    pub say_still : (HasUnsaid entries → ⊥) → station.say_faults e.station ≡ b.say
 
   -- it stands for these entries, and nothing is gathered
   abbrev pub Stands : List Entry → Engine P → Type 0
@@ -94,15 +94,15 @@ IsFullSince b entries event fault =
     × (full b.origin.directory (state_at b.origin entries) (used_at (origin_with b compactions) entries) event ≡ Some fault)
 
 -- What something stands for that has an engine, and room made for it or not: what the engine does, whatever compactions are done.
-abbrev pub housed_meanings : {P W : Type 0} → (W → Engine P) → (W → Bool) → Type 0 → (P → List Call) → (disk say : P → ℕ)
-    → Standing Beginning W
-housed_meanings engine makes observed calls disk say = record {
+abbrev pub housed_meanings : {P W : Type 0} → (W → Engine P) → (W → Bool) → StationMeanings P → Standing Beginning W
+housed_meanings engine makes station = record {
   directory = λ w. (engine w).directory;
   begin = λ b. begun b.origin.start;
-  gathers = λ b entries events w. StandsWith observed calls disk say b entries events (engine w) × (makes w ≡ b.makes_room);
+  gathers = λ b entries events w. StandsWith station b entries events (engine w) × (makes w ≡ b.makes_room);
   few = λ b entries events w gathered. gathered.0.keeps.most;
   is_full = IsFullSince;
   compacts = λ b entries. b;
-  left = λ b entries w. (compactions : List ℕ) × IsLeft observed Caller (origin_with b compactions) entries (shown calls (engine w));
+  left = λ b entries w. (compactions : List ℕ)
+      × IsLeft station.observed Caller (origin_with b compactions) entries (shown station.calls (engine w));
   is_full_compacted = λ b entries fault. IsFullCompacted b.origin.directory (state_at b.origin entries) fault;
 }

@@ -2,7 +2,7 @@
 use Rattle.std.specs.Prelude.{◌≡◌, ◌⊎◌, ℕ, ◌+◌, ◌*◌, ◌<◌, ◌≤◌, Bool, true, false, List, [], ◌∷◌, ◌++◌, length, map, Option, Some, None, if◌then◌else◌}
 use mathlib.Core.Option.{some}
 use lib.ListN.{get_elem?}
-use Rattle.gts_circuits.specs.Cited.Below.{AreOver, Call, Circuit, CircuitBytes, Directory, DiskFault, Engine, Entry, Event, GoesThrough, HasParts, IsFront, Known, LineFault, LineStood, LinesMeanings, LostSync, MOST_TURNS, Part, PlaceSeen, Quiet, ReceiveEnd, Receives, Rose, SayFault, Seen, SendEnd, Sends, SourceFault, SourceMeanings, StartsWith, SwitchFault, TableId, Taken, WentThroughAll, after, all_done, entries, entries_under, events_over, fault_entries, frame_of_draw, frames, given_index, goes_on, ipv4_octets, is_try, most_beside, on_circuit, outcome, state_at, takes, waiting}
+use Rattle.gts_circuits.specs.Cited.Below.{AreOver, Circuit, CircuitBytes, Directory, DiskFault, Engine, Entry, Event, GoesThrough, HasParts, IsFront, Known, LineFault, LineStood, LinesMeanings, LostSync, MOST_TURNS, Part, PlaceSeen, Quiet, ReceiveEnd, Receives, Rose, SayFault, Seen, SendEnd, Sends, SourceFault, SourceMeanings, StartsWith, StationMeanings, SwitchFault, TableId, Taken, WentThroughAll, after, all_done, entries, entries_under, events_over, fault_entries, frame_of_draw, frames, given_index, goes_on, ipv4_octets, is_try, most_beside, on_circuit, outcome, state_at, takes, waiting}
 use Rattle.gts_circuits.specs.Housed.{Beginning, Stands}
 use Rattle.gts_receiver.specs.declared.end.ReceiveEnd.TheVariants.{Ended, Fault}
 use Rattle.gts_circuits.specs.Gathering.{NamesAreUpTo}
@@ -257,7 +257,7 @@ pub record HasNothing (b : Beginning) (c : ℕ) (history : List Entry) : Type 0 
   pub owed : (on_circuit (state_at b.origin history) c).owed ≡ []
   pub waits : waiting (on_circuit (state_at b.origin history) c) ≡ []
 
-module _ {P S : Type 0} (observed : Type 0) (calls : P → List Call) (disk say : P → ℕ) (b : Beginning)
+module _ {P S : Type 0} (station : StationMeanings P) (b : Beginning)
     (incoming : SourceMeanings S) (sink_tells : Type 0) (connections : ℕ) (before now : LinesSeen) where
   -- All circuits were served, in these turns of all threads: the engine stands for their history and the takes behind it, and each
   -- circuit has its part of it. The end is the first fault.
@@ -265,7 +265,7 @@ module _ {P S : Type 0} (observed : Type 0) (calls : P → List Call) (disk say 
     pub drained : List (ℕ × Entry)
     pub ends : List (ReceiveEnd × SendEnd)
     pub counted : length ends ≡ length b.origin.directory.circuits
-    pub stands : Stands observed calls disk say b (entries (flat threads ++ drained)) engine
+    pub stands : Stands station b (entries (flat threads ++ drained)) engine
     pub takes : (k : ℕ) (x : ℕ × Entry) → get_elem? drained k ≡ some x
         → (c : ℕ) × (c < length ends) × (x.0 ≡ sender_name c) × IsTake c x.1
     pub circuits : (c : ℕ) (x : ReceiveEnd × SendEnd) → get_elem? ends c ≡ some x
@@ -285,12 +285,12 @@ module _ {P S : Type 0} (observed : Type 0) (calls : P → List Call) (disk say 
         → (length (now.bytes c).parts ≡ connections) × AreOver c (now.bytes c).parts
     -- and only where no line failed, nor the disk, nor standard output
     pub unfailed : end ≡ Done → (c : ℕ) → now.faults c ≡ before.faults c
-    pub sound : end ≡ Done → (disk engine.station ≡ b.disk) × (say engine.station ≡ b.say)
+    pub sound : end ≡ Done → (station.disk_faults engine.station ≡ b.disk) × (station.say_faults engine.station ≡ b.say)
 
   -- What came of a run, by the pass and the end. Without a pass nothing was read, written or said.
   abbrev pub IsServed : Option (Known (List Entry)) → ServeEnd → Engine P → Type 0
   IsServed (Some pass) end engine = Serves pass.seen pass.full engine end
   IsServed None (NotOpened c) engine =
-      Stands observed calls disk say b [] engine × StopsAtOpening b.origin.directory incoming.observed sink_tells c before now
-  IsServed None NoMemory engine = Stands observed calls disk say b [] engine × AreUntouched before now
+      Stands station b [] engine × StopsAtOpening b.origin.directory incoming.observed sink_tells c before now
+  IsServed None NoMemory engine = Stands station b [] engine × AreUntouched before now
   IsServed None end engine = ⊥

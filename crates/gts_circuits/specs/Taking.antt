@@ -1,6 +1,6 @@
 -- Several takes on one circuit, one behind another in one turn.
 use Rattle.std.specs.Prelude.{◌≡◌, ◌⊎◌, ℕ, ◌+◌, ◌≤◌, Bool, true, false, List, [], ◌∷◌, ◌++◌, length, replicate, Result, Ok, Err}
-use Rattle.gts_circuits.specs.Cited.Below.{Call, DiskFault, Doubt, Draw, Engine, Entry, Event, Frame, GaveAll, GaveNoMore, Idle, Nothing, Outcome, Resend, StationMeanings, Stopped, SwitchFault, Taken, after_takes, joined, most_beside, outcome, state_at, takes}
+use Rattle.gts_circuits.specs.Cited.Below.{DiskFault, Doubt, Draw, Engine, Entry, Event, Frame, GaveAll, GaveNoMore, Idle, Nothing, Outcome, Resend, StationMeanings, Stopped, SwitchFault, Taken, after_takes, joined, most_beside, outcome, state_at, takes}
 use Rattle.gts_circuits.specs.Housed.{Beginning, StandsWith, Stands}
 
 -- the frame that a take with this outcome left in a buffer: none where it gave nothing
@@ -26,13 +26,13 @@ AreTaken h c count front events = ((front ≡ h) × (events ≡ replicate count 
 
 -- Behind these entries takes on c were made, one after another, that gave these frames, and the last one something or nothing. Nothing is
 -- to be said of them.
-pub record HasTaken {P : Type 0} (observed : Type 0) (calls : P → List Call) (disk say : P → ℕ) (b : Beginning) (h : List Entry) (c : ℕ)
+pub record HasTaken {P : Type 0} (station : StationMeanings P) (b : Beginning) (h : List Entry) (c : ℕ)
     (frames : List Frame) (gave : Bool) (e : Engine P) : Type 0 where
   pub front : List Entry
   pub events : List Event
   pub taken : AreTaken h c (count_of frames gave) front events
   pub some : 1 ≤ count_of frames gave
-  pub stands : StandsWith observed calls disk say b front events e
+  pub stands : StandsWith station b front events e
   pub all : GaveAll b.origin.directory (state_at b.origin h) c frames
   pub last : gave ≡ false
       → outcome b.origin.directory (after_takes b.origin.directory (state_at b.origin h) c (length frames)) (Taken c) ≡ Nothing
@@ -52,22 +52,18 @@ AddsTaken b h c frames (Err (Stopped by)) more = (frames ≡ []) × (more ≡ Id
 AddsTaken b h c frames (Err fault) more = ⊥
 
 -- and the engine stands for them
-pub record LeavesTaken {P : Type 0} (observed : Type 0) (calls : P → List Call) (disk say : P → ℕ) (b : Beginning) (h : List Entry) (c : ℕ)
+pub record LeavesTaken {P : Type 0} (station : StationMeanings P) (b : Beginning) (h : List Entry) (c : ℕ)
     (frames : List Frame) (result : Result Bool SwitchFault) (e : Engine P) (more : List Entry) : Type 0 where
   pub added : AddsTaken b h c frames result more
-  pub stands : Stands observed calls disk say b (h ++ more) e
+  pub stands : Stands station b (h ++ more) e
 
--- Both in the words of a station, whatever the entries are for which the engine stood: takes of a turn, and takes behind others.
+-- Both, whatever the entries are for which the engine stood: takes of a turn, and takes behind others.
 abbrev pub TurnsTaken : {P : Type 0} → StationMeanings P → Beginning → ℕ → List Frame → Result Bool SwitchFault → (old new : Engine P)
     → Type 0
 TurnsTaken station b c frames result old new =
-    (h : List Entry) → Stands station.observed station.calls station.disk_faults station.say_faults b h old
-    → (more : List Entry)
-    × LeavesTaken station.observed station.calls station.disk_faults station.say_faults b h c frames result new more
+    (h : List Entry) → Stands station b h old → (more : List Entry) × LeavesTaken station b h c frames result new more
 
 abbrev pub GoesOnTaking : {P : Type 0} → StationMeanings P → Beginning → ℕ → List Frame → Bool → Engine P → List Frame → Bool → Engine P
     → Type 0
 GoesOnTaking station b c frames gave old frames_now gave_now new =
-    (h : List Entry)
-    → HasTaken station.observed station.calls station.disk_faults station.say_faults b h c frames gave old
-    → HasTaken station.observed station.calls station.disk_faults station.say_faults b h c frames_now gave_now new
+    (h : List Entry) → HasTaken station b h c frames gave old → HasTaken station b h c frames_now gave_now new

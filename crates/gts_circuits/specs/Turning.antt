@@ -1,6 +1,6 @@
 -- What a pass has seen, as a desk.
 use Rattle.std.specs.Prelude.{◌≡◌, ℕ, ◌∷◌, [], ◌++◌, List, length, Result}
-use Rattle.gts_circuits.specs.Cited.Below.{AddsFed, Answers, Call, Decoding, Engine, Entry, Event, FeedEnd, Known, LeavesFrame, Outcome, Seen, StartsWith, State, Step, SwitchFault, Taken, after_adding, after_seeing, entries, entries_under, events_added}
+use Rattle.gts_circuits.specs.Cited.Below.{AddsFed, Answers, Decoding, Engine, Entry, Event, FeedEnd, Known, LeavesFrame, Outcome, Seen, StartsWith, State, Step, SwitchFault, Taken, after_adding, after_seeing, entries, entries_under, events_added}
 use Rattle.gts_traits.specs.declared.station.Station.{Ghosts as StationMeanings}
 use Rattle.gts_calls.specs.Cited.{Reads}
 use Rattle.gts_circuits.specs.Flat.{all_of, flat}
@@ -26,22 +26,21 @@ seen_by b p = record {
 
 -- In a turn behind a history that begins with what the pass p had seen, an event was answered so, which added its entry, and p
 -- became q.
-pub record IsTurn {P : Type 0} (observed : Type 0) (calls : P → List Call) (disk say : P → ℕ) (b : Beginning) (event : Event)
+pub record IsTurn {P : Type 0} (station : StationMeanings P) (b : Beginning) (event : Event)
     (Holds : Outcome → State → Type 0) (result : Result Outcome SwitchFault) (p q : Known (List Entry)) : Type 0 where
   pub history : List (ℕ × List Entry)
   pub engine : Engine P
   pub later : StartsWith history p.seen
   pub knows : KnowsOwn p
   pub own : p.own ≡ entries_under p.name history
-  pub adds : Adds observed calls disk say b (all_of (entries history)) event Holds result engine
+  pub adds : Adds station b (all_of (entries history)) event Holds result engine
   pub is : q ≡ after_adding (after_seeing p history) (entry_by event result ∷ [])
 
 -- that of a take on c, which leaves its frame in out, in the words of a station
 abbrev pub TakesTurn : {P : Type 0} → StationMeanings P → Beginning → ℕ → List ℕ → Result Outcome SwitchFault
     → (p q : Known (List Entry)) → Type 0
 TakesTurn station b c out result p q =
-    IsTurn station.observed station.calls station.disk_faults station.say_faults b (Taken c)
-    (LeavesFrame b.origin.directory c out) result p q
+    IsTurn station b (Taken c) (LeavesFrame b.origin.directory c out) result p q
 
 -- what the desk of the pass answers for it
 abbrev pub DeskTakes : Beginning → ℕ → List ℕ → Result Outcome SwitchFault → (p q : Known (List Entry)) → Type 0
@@ -59,9 +58,9 @@ pub record Feeding : Type 0 where
   pub end : FeedEnd
 
 -- These entries were added for it, behind a history, and the engine stands for them: those of the events that the bytes ended.
-pub record AddsFor {P : Type 0} (observed : Type 0) (calls : P → List Call) (disk say : P → ℕ) (b : Beginning) (f : Feeding)
+pub record AddsFor {P : Type 0} (station : StationMeanings P) (b : Beginning) (f : Feeding)
     (history : List (ℕ × List Entry)) (engine : Engine P) (more : List Entry) : Type 0 where
   pub events : List Event
   pub are : (before : List ℕ) → Reads before f.begun f.step f.start → events_added f.c before f.taken ≡ events
   pub added : AddsFed f.c events f.message f.end more
-  pub stands : Stands observed calls disk say b (all_of (entries history) ++ more) engine
+  pub stands : Stands station b (all_of (entries history) ++ more) engine

@@ -1,7 +1,7 @@
 -- What a worker keeps.
-use Rattle.std.specs.Prelude.{◌≡◌, ℕ, ◌+◌, ◌*◌, ◌<◌, ◌≤◌, Bool, true, false, List, [], ◌++◌, length, slice_index_or, Option, Some, None}
+use Rattle.std.specs.Prelude.{◌≡◌, ℕ, ◌+◌, ◌*◌, ◌<◌, ◌≤◌, Bool, true, false, List, [], length, slice_index_or, Option, Some, None}
 use Rattle.gts_circuits.specs.Housed.{Beginning}
-use Rattle.gts_circuits.specs.Cited.Below.{Begun, Entry, Gives, Ghosts as SinkMeanings, GoesThrough, Known, LineFault, LineStood, Part, ReceiveEnd, Receives, Rose, Seen, SendEnd, Sends, SourceFault, SourceMeanings, TableId, WentThroughAll}
+use Rattle.gts_circuits.specs.Cited.Below.{Entry, Ghosts as SinkMeanings, GivesOver, GoesThrough, HasLineCause, HasReadCause, Known, Part, ReceiveEnd, Receives, Seen, SendEnd, Sends, SinkTook, SourceMeanings, TableId, WentThroughAll}
 use Rattle.gts_circuits.specs.Turning.{KnowsOwn, seen_by}
 use Rattle.gts_receiver.specs.declared.end.ReceiveEnd.TheVariants.{Ended}
 use Rattle.gts_circuits.specs.declared.workers.line.Line.{Line}
@@ -72,41 +72,36 @@ fresh b hall name = record {
   history = [];
 }
 
-module _ {S : Type 0} (observed : Type 0) (begun_by : S → Begun) (left : S → List ℕ) (faults : S → ℕ) where
+module _ {S : Type 0} (incoming : SourceMeanings S) where
   -- How a receiver over so many connections ended, by its source at first and now, and by what its desk had seen and has seen. It
   -- gave up no connection before that was over or broke.
   pub record ReceiverKeeps (c connections : ℕ) (first now : S) (old new : Seen) (end : ReceiveEnd) : Type 0 where
     pub earlier : List Part
     pub last : Part
     pub received : Receives c connections old new earlier last end
-    pub gave : observed → Gives c (begun_by first) (left first) earlier last (begun_by now) (left now) end
-    pub through : GoesThrough observed c connections (faults first) (faults now) earlier last end
-    pub ended : observed → (rest : ℕ) → end ≡ Ended rest → left now ≡ []
-    pub later : faults first ≤ faults now
-    pub fault : end ≡ SourceFault → Rose (faults first) (faults now)
-    pub sound : WentThroughAll end → faults now ≡ faults first
+    pub gave : GivesOver incoming c first now earlier last end
+    pub through : GoesThrough incoming.observed c connections (incoming.faults first) (incoming.faults now) earlier last end
+    pub ended : incoming.observed → (rest : ℕ) → end ≡ Ended rest → incoming.left now ≡ []
+    pub cause : HasReadCause incoming end (WentThroughAll end) first now
 
-module _ {K : Type 0} (observed : Type 0) (written : K → List ℕ) (faults : K → ℕ) where
+module _ {K : Type 0} (outgoing : SinkMeanings K) where
   -- How a sender ended, by its sink at first and now, and by what its desk had seen and has seen.
   pub record SenderKeeps (c : ℕ) (first now : K) (old new : Seen) (end : SendEnd) : Type 0 where
     pub bytes : List ℕ
     pub sent : Sends c old new bytes end
-    pub told : observed → written now ≡ written first ++ bytes
-    pub later : faults first ≤ faults now
-    pub fault : (index : ℕ) → end ≡ LineFault index → Rose (faults first) (faults now)
-    pub sound : LineStood end → faults now ≡ faults first
+    pub told : SinkTook outgoing first now bytes
+    pub cause : HasLineCause outgoing end first now
 
-module _ (b : Beginning) {S K : Type 0} (source_tells : Type 0) (begun_by : S → Begun) (left : S → List ℕ) (source_faults : S → ℕ)
-    (sink_tells : Type 0) (written : K → List ℕ) (sink_faults : K → ℕ) where
+module _ (b : Beginning) {S K : Type 0} (incoming : SourceMeanings S) (outgoing : SinkMeanings K) where
   -- A line of a circuit, by the socket at first and by what its pass has seen: nothing was done yet, or it has its end.
   abbrev pub LineKeeps : ℕ → TableId → Socket S K → Line S K → Seen → Type 0
   LineKeeps c hall (Reads many first) (Incoming now connections decoder None) seen =
       (now ≡ first) × (connections ≡ many) × (1 ≤ many) × (seen ≡ fresh b hall (receiver_name c))
   LineKeeps c hall (Reads many first) (Incoming now connections decoder (Some end)) seen =
-      ReceiverKeeps source_tells begun_by left source_faults c many first now (fresh b hall (receiver_name c)) seen end
+      ReceiverKeeps incoming c many first now (fresh b hall (receiver_name c)) seen end
   LineKeeps c hall (Writes first) (Outgoing now given None) seen = (now ≡ first) × (seen ≡ fresh b hall (sender_name c))
   LineKeeps c hall (Writes first) (Outgoing now given (Some end)) seen =
-      SenderKeeps sink_tells written sink_faults c first now (fresh b hall (sender_name c)) seen end
+      SenderKeeps outgoing c first now (fresh b hall (sender_name c)) seen end
   LineKeeps c hall (Reads many first) (Outgoing now given end) seen = ⊥
   LineKeeps c hall (Writes first) (Incoming now connections decoder end) seen = ⊥
 
@@ -121,8 +116,3 @@ module _ (b : Beginning) {S K : Type 0} (source_tells : Type 0) (begun_by : S �
   abbrev pub WorkerKeeps : ℕ → TableId → Socket S K → Line S K → Option (Known (List Entry)) → Type 0
   WorkerKeeps c hall first line (Some p) = PassKeeps c hall first line p
   WorkerKeeps c hall first line None = ⊥
-
--- that of the pass, in the words of sources and of sinks
-abbrev pub HasKept : {S K : Type 0} → Beginning → SourceMeanings S → SinkMeanings K → ℕ → TableId → Socket S K → Line S K
-    → Known (List Entry) → Type 0
-HasKept b source sink = PassKeeps b source.observed source.begun source.left source.faults sink.observed sink.written sink.faults

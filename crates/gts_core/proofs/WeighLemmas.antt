@@ -1,17 +1,16 @@
 -- What was found of a message is what the definitions read of it.
-use Rattle.std.proofs.Common.{◌≡◌, ◌<◌, ◌≤◌, List, [], ◌++◌, length, ℕ, Result, Ok, Err, sym, ap, ◌∙◌, arith}
+use Rattle.std.proofs.lemmas.Grind.{common_steps}
+use Rattle.std.proofs.Common.{◌≡◌, ◌<◌, ◌≤◌, List, ◌++◌, length, ℕ, Result, Ok, Err, sym, ap, arith}
 use Rattle.std.proofs.lemmas.List.{length-append}
 use Rattle.gts_message.proofs.LawLemmas.{split_takes}
-use Rattle.gts_core.specs.Cited.{Asks, Directory, EOL, HeadingFields, IsFound, Item, Judged, LONGEST_BODY, LONGEST_MESSAGE, MessageField, MessageParts, RequestField, heading_of_message, heading_text, items_of, message_end, no_heading, request_at, split_at}
+use Rattle.gts_core.specs.Cited.{Asks, Directory, EOL, HeadingFields, IsFound, Item, Judged, LONGEST_BODY, LONGEST_MESSAGE, MessageField, MessageParts, heading_of_message, heading_text, items_of, message_end, no_heading, request_at, split_at}
 use Rattle.gts_core.specs.declared.answer.Judged.TheVariants as judged
 
 pub heading_read : (message : List ℕ) (parts : MessageParts) → split_at message ≡ Ok parts → heading_of_message message ≡ parts.heading
 heading_read message parts read = ap (λ (r : Result MessageParts MessageField). elim r as (λ _. HeadingFields) [ Err _ ↦ no_heading | Ok x ↦ x.heading ]) read
 
 items_read : (message : List ℕ) (parts : MessageParts) (items : List Item) → split_at message ≡ Ok parts → request_at parts.text ≡ Ok items → items_of message ≡ items
-items_read message parts items read asks =
-    ap (λ (r : Result MessageParts MessageField). elim r as (λ _. List Item) [ Err _ ↦ [] | Ok x ↦ elim (request_at x.text) as (λ _. List Item) [ Err _ ↦ [] | Ok xs ↦ xs ] ]) read
-    ∙ ap (λ (r : Result (List Item) RequestField). elim r as (λ _. List Item) [ Err _ ↦ [] | Ok xs ↦ xs ]) asks
+items_read message parts items read asks = grind (arith, common_steps)
 
 -- what the text of a message asks for is found of the message
 pub asks_found : (d : Directory) (c : ℕ) (message : List ℕ) (parts : MessageParts) (found : Judged) → split_at message ≡ Ok parts → Asks (request_at parts.text) found → IsFound d c message found

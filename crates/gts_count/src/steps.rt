@@ -1,6 +1,6 @@
 //! The calls of a switch, each passed on, and its outcome noted.
 ghost use Rattle.std.specs.Prelude.{◌≡◌, ◌<◌, ◌≤◌, length};
-ghost use Rattle.gts_count.specs.Cited.{AfterSettled, HasCallCause, HasReopenCause, Heard, IsAnswered, IsCompacting, IsReopening, IsSettling, IsSound, LONGEST_MESSAGE, LeavesFrame, Lost, MayLeave, Taken, counted_meanings};
+ghost use Rattle.gts_count.specs.Cited.{AfterSettled, CountsCall, CountsReopening, Heard, IsAnswered, IsCompacting, IsReopening, IsSettling, IsSound, LONGEST_MESSAGE, LeavesFrame, Lost, MayLeave, Taken, counted_meanings};
 
 use crate::CountedParts;
 use crate::counting::{note_heard, note_taken, ready};
@@ -26,9 +26,7 @@ pub fn hear<T: Switch>(
     ensures called { IsAnswered (counted_meanings T.meanings) (Heard c kind message.now) result
         parts.old parts.new }
     ensures sound { IsSound parts.new.counting.numbers }
-    ensures cause { HasCallCause result
-        (T.disk_faults parts.old.switch) (T.disk_faults parts.new.switch)
-        (T.say_faults parts.old.switch) (T.say_faults parts.new.switch) }
+    ensures cause { CountsCall T.Switch result parts.old.switch parts.new.switch }
 {
     match ready(&mut parts.counting, c, message) {
         Ok(ready) => {
@@ -55,9 +53,7 @@ pub fn lose<T: Switch>(
     ensures called { IsAnswered (counted_meanings T.meanings) (Lost c field) result
         parts.old parts.new }
     ensures sound { IsSound parts.new.counting.numbers }
-    ensures cause { HasCallCause result
-        (T.disk_faults parts.old.switch) (T.disk_faults parts.new.switch)
-        (T.say_faults parts.old.switch) (T.say_faults parts.new.switch) }
+    ensures cause { CountsCall T.Switch result parts.old.switch parts.new.switch }
 {
     let answer = parts.switch.lost(c, field);
     note_heard(&mut parts.counting, None, answer);
@@ -76,9 +72,7 @@ pub fn take<T: Switch>(
         parts.old parts.new }
     ensures frame { LeavesFrame (counted_meanings T.meanings) c result parts.old out.new }
     ensures sound { IsSound parts.new.counting.numbers }
-    ensures cause { HasCallCause result
-        (T.disk_faults parts.old.switch) (T.disk_faults parts.new.switch)
-        (T.say_faults parts.old.switch) (T.say_faults parts.new.switch) }
+    ensures cause { CountsCall T.Switch result parts.old.switch parts.new.switch }
 {
     let answer = parts.switch.take(c, out);
     note_taken(&mut parts.counting, c, out.bytes(), answer);
@@ -92,9 +86,7 @@ pub fn settle<T: Switch>(parts: &mut CountedParts<T>) -> Result<(), SwitchFault>
     ensures switch { IsSettling T.meanings result parts.old.switch parts.new.switch }
     ensures noted { AfterSettled result parts.old.counting parts.new.counting }
     ensures sound { IsSound parts.new.counting.numbers }
-    ensures cause { HasCallCause result
-        (T.disk_faults parts.old.switch) (T.disk_faults parts.new.switch)
-        (T.say_faults parts.old.switch) (T.say_faults parts.new.switch) }
+    ensures cause { CountsCall T.Switch result parts.old.switch parts.new.switch }
 {
     let answer = parts.switch.settle();
     if answer.is_err() {
@@ -115,9 +107,7 @@ pub fn restart<T: Switch>(parts: &mut CountedParts<T>, alloc: Global) -> Result<
     ensures reopening { IsReopening (counted_meanings T.meanings) T.observed result
         parts.old parts.new }
     ensures counting { parts.new.counting ≡ parts.old.counting }
-    ensures cause { HasReopenCause result
-        (T.disk_faults parts.old.switch) (T.disk_faults parts.new.switch)
-        (T.say_faults parts.old.switch) (T.say_faults parts.new.switch) }
+    ensures cause { CountsReopening T.Switch result parts.old.switch parts.new.switch }
 {
     parts.switch.restart(alloc)
 }
@@ -126,9 +116,7 @@ pub fn restart<T: Switch>(parts: &mut CountedParts<T>, alloc: Global) -> Result<
 pub fn compact<T: Switch>(parts: &mut CountedParts<T>, alloc: Global) -> Result<(), SwitchFault>
     ensures compacting { IsCompacting (counted_meanings T.meanings) result parts.old parts.new }
     ensures counting { parts.new.counting ≡ parts.old.counting }
-    ensures cause { HasCallCause result
-        (T.disk_faults parts.old.switch) (T.disk_faults parts.new.switch)
-        (T.say_faults parts.old.switch) (T.say_faults parts.new.switch) }
+    ensures cause { CountsCall T.Switch result parts.old.switch parts.new.switch }
 {
     parts.switch.compact(alloc)
 }

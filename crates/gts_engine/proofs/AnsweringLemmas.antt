@@ -1,6 +1,6 @@
 -- Calls over the parts of an engine: room is made, an event enters, and it is told.
 use Rattle.std.proofs.Common.{◌≡◌, ◌≤◌, ◌++◌, ◌∷◌, if◌then◌else◌, Bool, true, false, inl, inr, ℕ, List, [], length, Option, Some, None, Result, Ok, Err, refl, sym, ap, subst, ◌∙◌, arith, IfErr, IfNone, IfOk, IfSome, OnOk, slice_index_or, ◌<◌}
-use Rattle.gts_engine.specs.Cited.{AnswersIn, Call, Core, Device, Directory, DiskFault, Engine, EngineParts, Event, Full, HasCallCause, HasEntered, HasTold, Holds, IsAnswered, IsDeviceFault, IsSound, LeavesCall, MOST_TOGETHER, MayHaveSettled, NoMemory, Outcome, Outside, Rose, SayFault, SayMode, Spent, State, Stopped, SwitchFault, by_station, bytes_wanted, engine_of, held_pieces, joined, meanings_of, most_drawn, on, outcome, spoken, stopped_after}
+use Rattle.gts_engine.specs.Cited.{AsksOutput, AnswersIn, Core, Device, Directory, DiskFault, Engine, EngineParts, Event, Full, HasCallCause, HasEntered, HasStationCause, HasTold, Holds, IsAnswered, IsDeviceFault, IsSound, LeavesCall, MOST_TOGETHER, MayHaveSettled, NoMemory, Outcome, Outside, SayFault, SayMode, Spent, State, StationMeanings, Stopped, SwitchFault, by_station, bytes_wanted, engine_of, held_pieces, joined, meanings_of, most_drawn, on, outcome, spoken, stopped_after}
 use Rattle.gts_engine.proofs.TurnLemmas.{goes_on}
 use Rattle.gts_engine.proofs.AnswerLemmas.{EachHeld, answered, stopped_leaves}
 use Rattle.gts_engine.proofs.GatherLemmas.{fails_after}
@@ -36,40 +36,40 @@ cause_then first result a b c x y z none p q = record {
   say_still = λ no. q.say_still no ∙ p.say_still none.1;
 }
 
-module _ {P : Type 0} (observed : Type 0) (calls : P → List Call) (disk say : P → ℕ) (result : Result (Unit {0}) SwitchFault) (old mid : EngineParts P) where
-  pub may_directory : MayHaveSettled observed calls disk say result old mid → mid.directory ≡ old.directory
+module _ {P : Type 0} (station : StationMeanings P) (result : Result (Unit {0}) SwitchFault) (old mid : EngineParts P) where
+  pub may_directory : MayHaveSettled station result old mid → mid.directory ≡ old.directory
   may_directory (inl same) = ap part_directory same.1
   may_directory (inr settled) = ap part_directory settled.rest
 
-  pub may_core : MayHaveSettled observed calls disk say result old mid → mid.core ≡ old.core
+  pub may_core : MayHaveSettled station result old mid → mid.core ≡ old.core
   may_core (inl same) = ap part_core same.1
   may_core (inr settled) = ap part_core settled.rest
 
-  pub may_sound : MayHaveSettled observed calls disk say result old mid → IsSound observed calls old → IsSound observed calls mid
-  may_sound (inl same) sound = subst (λ (p : EngineParts P). IsSound observed calls p) (sym same.1) sound
+  pub may_sound : MayHaveSettled station result old mid → IsSound station old → IsSound station mid
+  may_sound (inl same) sound = subst (λ (p : EngineParts P). IsSound station p) (sym same.1) sound
   may_sound (inr settled) sound = settled.sound
 
   -- where nothing was gathered, nothing failed
-  pub may_ok : MayHaveSettled observed calls disk say result old mid → (engine_of old).gathered ≡ false → result ≡ Ok tt
+  pub may_ok : MayHaveSettled station result old mid → (engine_of old).gathered ≡ false → result ≡ Ok tt
   may_ok (inl same) none = same.0
   may_ok (inr settled) none = (settled.nothing none).0
 
   -- where nothing was gathered, nothing is held
-  pub may_quiet : MayHaveSettled observed calls disk say result old mid → IsSound observed calls old → (engine_of old).gathered ≡ false → (engine_of mid).held ≡ []
+  pub may_quiet : MayHaveSettled station result old mid → IsSound station old → (engine_of old).gathered ≡ false → (engine_of mid).held ≡ []
   may_quiet (inl same) sound none = ap part_held same.1 ∙ ap held_pieces (sound.rests none)
   may_quiet (inr settled) sound none = ap held_pieces settled.silent
 
   -- only a device fails
-  pub may_kind : MayHaveSettled observed calls disk say result old mid → IfErr result IsDeviceFault
+  pub may_kind : MayHaveSettled station result old mid → IfErr result IsDeviceFault
   may_kind (inl same) = subst (λ (r : Result (Unit {0}) SwitchFault). IfErr r IsDeviceFault) (sym same.0) tt
   may_kind (inr settled) = settled.kind
 
-  pub may_stops : MayHaveSettled observed calls disk say result old mid → mid.stopped ≡ stopped_after old.stopped result
+  pub may_stops : MayHaveSettled station result old mid → mid.stopped ≡ stopped_after old.stopped result
   may_stops (inl same) = ap part_stopped same.1 ∙ sym (ap (stopped_after old.stopped) same.0)
   may_stops (inr settled) = settled.stops
 
   -- nothing failed
-  pub unfailed : result ≡ Ok tt → HasCallCause result (disk old.station) (disk old.station) (say old.station) (say old.station)
+  pub unfailed : result ≡ Ok tt → HasStationCause station result old.station old.station
   unfailed ok = record {
     disk_later = omega arith;
     disk_failed = λ e. absurd (let no : ◌≡◌ {A = Result (Unit {0}) SwitchFault} (Ok tt) (Err DiskFault) = sym ok ∙ e in cc no);
@@ -79,23 +79,23 @@ module _ {P : Type 0} (observed : Type 0) (calls : P → List Call) (disk say : 
     say_still = λ no. refl;
   }
 
-  pub may_cause : MayHaveSettled observed calls disk say result old mid → HasCallCause result (disk old.station) (disk mid.station) (say old.station) (say mid.station)
-  may_cause (inl same) = subst (λ (p : P). HasCallCause result (disk old.station) (disk p) (say old.station) (say p)) (sym (ap part_station same.1)) (unfailed same.0)
+  pub may_cause : MayHaveSettled station result old mid → HasStationCause station result old.station mid.station
+  may_cause (inl same) = subst (λ (p : P). HasStationCause station result old.station p) (sym (ap part_station same.1)) (unfailed same.0)
   may_cause (inr settled) = settled.cause
 
 -- as many bytes are in use, where room could be made
-pub may_used : {P : Type 0} (observed : Type 0) (calls : P → List Call) (disk say : P → ℕ) (result : Result (Unit {0}) SwitchFault) (old mid : EngineParts P) → MayHaveSettled observed calls disk say result old mid → result ≡ Ok tt
+pub may_used : {P : Type 0} (station : StationMeanings P) (result : Result (Unit {0}) SwitchFault) (old mid : EngineParts P) → MayHaveSettled station result old mid → result ≡ Ok tt
     → (engine_of mid).used ≡ (engine_of old).used
-may_used observed calls disk say result old mid (inl same) ok = ap part_used same.1
-may_used observed calls disk say result old mid (inr settled) ok = subst (λ (r : Result (Unit {0}) SwitchFault). OnOk r ((engine_of mid).used ≡ (engine_of old).used)) ok settled.used
+may_used station result old mid (inl same) ok = ap part_used same.1
+may_used station result old mid (inr settled) ok = subst (λ (r : Result (Unit {0}) SwitchFault). OnOk r ((engine_of mid).used ≡ (engine_of old).used)) ok settled.used
 
 -- as many draws are counted where room could be made, or none
-pub draws_still : {P : Type 0} (observed : Type 0) (calls : P → List Call) (disk say : P → ℕ) (result : Result (Unit {0}) SwitchFault) (old mid : EngineParts P) (c : ℕ) → MayHaveSettled observed calls disk say result old mid
+pub draws_still : {P : Type 0} (station : StationMeanings P) (result : Result (Unit {0}) SwitchFault) (old mid : EngineParts P) (c : ℕ) → MayHaveSettled station result old mid
     → slice_index_or old.drawn c 0 < most_drawn old.directory c → slice_index_or mid.drawn c 0 < most_drawn mid.directory c
-draws_still {P} observed calls disk say result old mid c (inl same) few = subst (λ (p : EngineParts P). slice_index_or p.drawn c 0 < most_drawn p.directory c) (sym same.1) few
-draws_still observed calls disk say result old mid c (inr settled) few =
+draws_still {P} station result old mid c (inl same) few = subst (λ (p : EngineParts P). slice_index_or p.drawn c 0 < most_drawn p.directory c) (sym same.1) few
+draws_still station result old mid c (inr settled) few =
     let D : Directory → Type 0 = λ d. slice_index_or mid.drawn c 0 < most_drawn d c in
-    subst D (sym (ap part_directory settled.rest)) (omega (arith, few, drawn_settled observed calls disk say result old mid settled c))
+    subst D (sym (ap part_directory settled.rest)) (omega (arith, few, drawn_settled station result old mid settled c))
 
 -- ---- answers with the same fault
 
@@ -143,75 +143,75 @@ cause_none first done answer a b x y ok c =
     }
 
 -- the cause of what was told
-told_cause : (r : Result (Unit {0}) SwitchFault) (a b x y : ℕ) → IfErr r (λ fault. (fault ≡ SayFault) × Rose x y) → x ≤ y → OnOk r (y ≡ x) → b ≡ a → HasCallCause r a b x y
-told_cause (Ok done) a b x y fault later still same = record {
-  disk_later = omega (arith, same);
+told_cause : {P : Type 0} (station : StationMeanings P) (r : Result (Unit {0}) SwitchFault) (old new : P) → IfErr r (λ fault. fault ≡ SayFault) → AsksOutput station r old new → HasStationCause station r old new
+told_cause station (Ok done) old new is asks = record {
+  disk_later = omega (arith, asks.disk);
   disk_failed = λ e. absurd (cc e);
-  disk_still = λ no. same;
-  say_later = later;
+  disk_still = λ no. asks.disk;
+  say_later = asks.later;
   say_failed = λ e. absurd (cc e);
-  say_still = λ no. still;
+  say_still = λ no. asks.sound;
 }
-told_cause (Err f) a b x y fault later still same = record {
-  disk_later = omega (arith, same);
-  disk_failed = λ e. absurd (let is : f ≡ SayFault = fault.0 in let no : f ≡ DiskFault = cc e in let bad : SayFault ≡ DiskFault = sym is ∙ no in cc bad);
-  disk_still = λ no. same;
-  say_later = later;
-  say_failed = λ e. fault.1;
-  say_still = λ no. absurd (no (let E : SwitchFault → Result (Unit {0}) SwitchFault = λ g. Err g in ap E fault.0));
+told_cause station (Err f) old new is asks = record {
+  disk_later = omega (arith, asks.disk);
+  disk_failed = λ e. absurd (let no : f ≡ DiskFault = cc e in let bad : SayFault ≡ DiskFault = sym is ∙ no in cc bad);
+  disk_still = λ no. asks.disk;
+  say_later = asks.later;
+  say_failed = λ e. asks.failed refl;
+  say_still = λ no. absurd (no (let E : SwitchFault → Result (Unit {0}) SwitchFault = λ g. Err g in ap E is));
 }
 
-module _ {P : Type 0} (observed : Type 0) (calls : P → List Call) (disk say : P → ℕ) (first old : EngineParts P) (cleared : Result (Unit {0}) SwitchFault)
-    (clears : MayHaveSettled observed calls disk say cleared first old) (ok : cleared ≡ Ok tt) (going : first.stopped ≡ None) where
+module _ {P : Type 0} (station : StationMeanings P) (first old : EngineParts P) (cleared : Result (Unit {0}) SwitchFault)
+    (clears : MayHaveSettled station cleared first old) (ok : cleared ≡ Ok tt) (going : first.stopped ≡ None) where
   -- the engine goes on behind what was cleared
   pub goes_cleared : old.stopped ≡ None
-  goes_cleared = may_stops observed calls disk say cleared first old clears ∙ ap (stopped_after first.stopped) ok ∙ going
+  goes_cleared = may_stops station cleared first old clears ∙ ap (stopped_after first.stopped) ok ∙ going
 
   -- what holds of the core behind what was cleared, held of it before
   pub each_before : (Q : Directory → State → Type 0) → ((s : State) → Holds old.directory old.core s → Q old.directory s) → (s : State) → Holds first.directory first.core s → Q first.directory s
   each_before Q each s holds =
       let H : Core → Type 0 = λ k. Holds first.directory k s in
       let D : Directory → Type 0 = λ d. Holds d old.core s → Q d s in
-      subst D (may_directory observed calls disk say cleared first old clears) (each s) (subst H (sym (may_core observed calls disk say cleared first old clears)) holds)
+      subst D (may_directory station cleared first old clears) (each s) (subst H (sym (may_core station cleared first old clears)) holds)
 
   -- and what held of it before holds still
   pub each_behind : (Q : Directory → State → Type 0) → ((s : State) → Holds first.directory first.core s → Q first.directory s) → (s : State) → Holds old.directory old.core s → Q old.directory s
   each_behind Q each s holds =
       let H : Core → Type 0 = λ k. Holds old.directory k s in
       let D : Directory → Type 0 = λ d. Holds d first.core s → Q d s in
-      subst D (sym (may_directory observed calls disk say cleared first old clears)) (each s) (subst H (may_core observed calls disk say cleared first old clears) holds)
+      subst D (sym (may_directory station cleared first old clears)) (each s) (subst H (may_core station cleared first old clears) holds)
 
-module _ {P : Type 0} (observed : Type 0) (calls : P → List Call) (disk say : P → ℕ) (mode : SayMode) (event : Event) (first old : EngineParts P) (cleared : Result (Unit {0}) SwitchFault)
-    (clears : MayHaveSettled observed calls disk say cleared first old) where
+module _ {P : Type 0} (station : StationMeanings P) (mode : SayMode) (event : Event) (first old : EngineParts P) (cleared : Result (Unit {0}) SwitchFault)
+    (clears : MayHaveSettled station cleared first old) where
   -- no room could be made
-  pub answers_uncleared : (fault : SwitchFault) → cleared ≡ Err fault → IsSound observed calls first → AnswersIn observed calls disk say mode event (Err fault) first old
+  pub answers_uncleared : (fault : SwitchFault) → cleared ≡ Err fault → IsSound station first → AnswersIn station mode event (Err fault) first old
   answers_uncleared fault failed sound = record {
-    called = λ o entries events kept. fails_after observed calls mode o entries events event disk say cleared fault first old failed clears kept;
+    called = λ o entries events kept. fails_after station mode o entries events event cleared fault first old failed clears kept;
     outcome = tt;
-    directory = may_directory observed calls disk say cleared first old clears;
-    sound = may_sound observed calls disk say cleared first old clears sound;
-    stops = may_stops observed calls disk say cleared first old clears ∙ ap (stopped_after first.stopped) failed ∙ stops_alike (Unit {0}) Outcome first.stopped fault;
-    cause = cause_alike cleared fault (disk first.station) (disk old.station) (say first.station) (say old.station) failed (may_cause observed calls disk say cleared first old clears);
+    directory = may_directory station cleared first old clears;
+    sound = may_sound station cleared first old clears sound;
+    stops = may_stops station cleared first old clears ∙ ap (stopped_after first.stopped) failed ∙ stops_alike (Unit {0}) Outcome first.stopped fault;
+    cause = cause_alike cleared fault (station.disk_faults first.station) (station.disk_faults old.station) (station.say_faults first.station) (station.say_faults old.station) failed (may_cause station cleared first old clears);
   }
 
   module _ (ok : cleared ≡ Ok tt) (going : first.stopped ≡ None) where
     going_old : old.stopped ≡ None
-    going_old = goes_cleared observed calls disk say first old cleared clears ok going
+    going_old = goes_cleared station first old cleared clears ok going
 
-    module _ (mid : EngineParts P) (result : Outcome) (enters : HasEntered observed calls event result old mid) where
+    module _ (mid : EngineParts P) (result : Outcome) (enters : HasEntered station event result old mid) where
       outcome_first : (s : State) → Holds first.directory first.core s → result ≡ outcome first.directory s event
-      outcome_first = each_before observed calls disk say first old cleared clears ok going (λ d s. result ≡ outcome d s event) enters.entered.step.outcome
+      outcome_first = each_before station first old cleared clears ok going (λ d s. result ≡ outcome d s event) enters.entered.step.outcome
 
       directory_all : mid.directory ≡ first.directory
-      directory_all = enters.entered.directory ∙ may_directory observed calls disk say cleared first old clears
+      directory_all = enters.entered.directory ∙ may_directory station cleared first old clears
 
-      cause_mid : HasCallCause cleared (disk first.station) (disk mid.station) (say first.station) (say mid.station)
+      cause_mid : HasStationCause station cleared first.station mid.station
       cause_mid =
-          let C : P → Type 0 = λ p. HasCallCause cleared (disk first.station) (disk p) (say first.station) (say p) in
-          subst C (sym enters.station) (may_cause observed calls disk say cleared first old clears)
+          let C : P → Type 0 = λ p. HasStationCause station cleared first.station p in
+          subst C (sym enters.unasked) (may_cause station cleared first old clears)
 
-      module _ (new : EngineParts P) (channel : ℕ) (bytes : List ℕ) (r : Result (Unit {0}) SwitchFault) (told : HasTold observed calls disk say channel bytes r mid new)
-          (says : EachHeld observed calls mode event (engine_of old) (λ d s. by_station mode (spoken d s event) ≡ on channel bytes)) where
+      module _ (new : EngineParts P) (channel : ℕ) (bytes : List ℕ) (r : Result (Unit {0}) SwitchFault) (told : HasTold station channel bytes r mid new)
+          (says : EachHeld station mode event (engine_of old) (λ d s. by_station mode (spoken d s event) ≡ on channel bytes)) where
         told_directory : new.directory ≡ first.directory
         told_directory = by_cases (engine_of mid).gathered refl
           where
@@ -219,36 +219,36 @@ module _ {P : Type 0} (observed : Type 0) (calls : P → List Call) (disk say : 
             by_cases true gathered = ap part_directory (told.held gathered).1 ∙ directory_all
             by_cases false none = ap part_directory (told.rest none) ∙ directory_all
 
-        cause_all : HasCallCause r (disk first.station) (disk new.station) (say first.station) (say new.station)
+        cause_all : HasStationCause station r first.station new.station
         cause_all =
-            cause_then cleared r (disk first.station) (disk mid.station) (disk new.station) (say first.station) (say mid.station) (say new.station)
+            cause_then cleared r (station.disk_faults first.station) (station.disk_faults mid.station) (station.disk_faults new.station) (station.say_faults first.station) (station.say_faults mid.station) (station.say_faults new.station)
             (no_device_done cleared tt ok) cause_mid
-            (told_cause r (disk mid.station) (disk new.station) (say mid.station) (say new.station) told.fault told.later told.sound told.disk_stays)
+            (told_cause station r mid.station new.station told.fault told.cause)
 
-        pub answers_told : r ≡ Ok tt → AnswersIn observed calls disk say mode event (Ok result) first new
+        pub answers_told : r ≡ Ok tt → AnswersIn station mode event (Ok result) first new
         answers_told done = record {
-          called = told_well observed calls disk say mode event first old mid new going_old cleared ok clears result enters enters.entered.stopped channel bytes r told says done;
+          called = told_well station mode event first old mid new going_old cleared ok clears result enters enters.entered.stopped channel bytes r told says done;
           outcome = outcome_first;
           directory = told_directory;
-          sound = told_sound observed calls disk say mode event first old mid new going_old cleared ok clears result enters enters.entered.stopped channel bytes r told says;
+          sound = told_sound station mode event first old mid new going_old cleared ok clears result enters enters.entered.stopped channel bytes r told says;
           stops = told.stops ∙ ap (stopped_after mid.stopped) done ∙ enters.entered.stopped ∙ sym going;
-          cause = cause_none r tt result (disk first.station) (disk new.station) (say first.station) (say new.station) done cause_all;
+          cause = cause_none r tt result (station.disk_faults first.station) (station.disk_faults new.station) (station.say_faults first.station) (station.say_faults new.station) done cause_all;
         }
 
-        pub answers_choked : (fault : SwitchFault) → r ≡ Err fault → AnswersIn observed calls disk say mode event (Err fault) first new
+        pub answers_choked : (fault : SwitchFault) → r ≡ Err fault → AnswersIn station mode event (Err fault) first new
         answers_choked fault failed = record {
           called =
-              let L : SwitchFault → Type 0 = λ f. LeavesCall observed calls mode event (Err f) (engine_of first) (engine_of new) in
-              subst L (sym is_say) (told_badly observed calls disk say mode event first old mid new going_old cleared ok clears result enters enters.entered.stopped channel bytes r told says fault failed);
+              let L : SwitchFault → Type 0 = λ f. LeavesCall station mode event (Err f) (engine_of first) (engine_of new) in
+              subst L (sym is_say) (told_badly station mode event first old mid new going_old cleared ok clears result enters enters.entered.stopped channel bytes r told says fault failed);
           outcome = tt;
           directory = told_directory;
-          sound = told_sound observed calls disk say mode event first old mid new going_old cleared ok clears result enters enters.entered.stopped channel bytes r told says;
+          sound = told_sound station mode event first old mid new going_old cleared ok clears result enters enters.entered.stopped channel bytes r told says;
           stops = told.stops ∙ ap (stopped_after mid.stopped) failed ∙ stops_by fault is_say;
-          cause = cause_alike r fault (disk first.station) (disk new.station) (say first.station) (say new.station) failed cause_all;
+          cause = cause_alike r fault (station.disk_faults first.station) (station.disk_faults new.station) (station.say_faults first.station) (station.say_faults new.station) failed cause_all;
         }
           where
             is_say : fault ≡ SayFault
-            is_say = let F : Result (Unit {0}) SwitchFault → Type 0 = λ a. IfErr a (λ e. (e ≡ SayFault) × Rose (say mid.station) (say new.station)) in (subst F failed told.fault).0
+            is_say = let F : Result (Unit {0}) SwitchFault → Type 0 = λ a. IfErr a (λ e. e ≡ SayFault) in subst F failed told.fault
 
             stops_by : (f : SwitchFault) → f ≡ SayFault → stopped_after mid.stopped (let a : Result (Unit {0}) SwitchFault = Err f in a) ≡ stopped_after first.stopped (let a : Result Outcome SwitchFault = Err f in a)
             stops_by f is =
@@ -257,22 +257,22 @@ module _ {P : Type 0} (observed : Type 0) (calls : P → List Call) (disk say : 
 
       -- or nothing is said of it
       module _ (new : EngineParts P) (rest : new ≡ record mid { held = new.held }) (same : (engine_of mid).gathered ≡ false → new ≡ mid) (held : (engine_of new).held ≡ (if (engine_of mid).gathered then (engine_of mid).held ++ [] ∷ [] else (engine_of mid).held))
-          (few : length (engine_of new).held ≤ MOST_TOGETHER) (silent : EachHeld observed calls mode event (engine_of old) (λ d s. by_station mode (spoken d s event) ≡ [])) where
-        pub answers_untold : AnswersIn observed calls disk say mode event (Ok result) first new
+          (few : length (engine_of new).held ≤ MOST_TOGETHER) (silent : EachHeld station mode event (engine_of old) (λ d s. by_station mode (spoken d s event) ≡ [])) where
+        pub answers_untold : AnswersIn station mode event (Ok result) first new
         answers_untold = record {
-          called = untold observed calls disk say mode event first old mid new going_old cleared ok clears result enters enters.entered.stopped rest held few silent;
+          called = untold station mode event first old mid new going_old cleared ok clears result enters enters.entered.stopped rest held few silent;
           outcome = outcome_first;
           directory = ap part_directory rest ∙ directory_all;
           sound = sound_untold (engine_of mid).gathered refl;
           stops = ap part_stopped rest ∙ enters.entered.stopped ∙ sym going;
           cause =
-              let C : P → Type 0 = λ p. HasCallCause (let a : Result Outcome SwitchFault = Ok result in a) (disk first.station) (disk p) (say first.station) (say p) in
-              subst C (sym (ap part_station rest)) (cause_none cleared tt result (disk first.station) (disk mid.station) (say first.station) (say mid.station) ok cause_mid);
+              let C : P → Type 0 = λ p. HasStationCause station (let a : Result Outcome SwitchFault = Ok result in a) first.station p in
+              subst C (sym (ap part_station rest)) (cause_none cleared tt result (station.disk_faults first.station) (station.disk_faults mid.station) (station.say_faults first.station) (station.say_faults mid.station) ok cause_mid);
         }
           where
-            sound_untold : (b : Bool) → (engine_of mid).gathered ≡ b → IsSound observed calls new
+            sound_untold : (b : Bool) → (engine_of mid).gathered ≡ b → IsSound station new
             sound_untold true gathered =
-                let S : EngineParts P → Type 0 = λ x. IsSound observed calls x in
+                let S : EngineParts P → Type 0 = λ x. IsSound station x in
                 subst S (sym rest) (record {
                   goes = λ going_still. enters.sound.goes enters.entered.stopped;
                   few = enters.sound.few;
@@ -280,7 +280,7 @@ module _ {P : Type 0} (observed : Type 0) (calls : P → List Call) (disk say : 
                   undrawn = λ none. absurd (cc (gathered, none));
                   idle = λ by is. absurd (goes_on mid.stopped by is enters.entered.stopped);
                 })
-            sound_untold false none = let S : EngineParts P → Type 0 = λ x. IsSound observed calls x in subst S (sym (same none)) enters.sound
+            sound_untold false none = let S : EngineParts P → Type 0 = λ x. IsSound station x in subst S (sym (same none)) enters.sound
 
         -- where nothing was gathered before it, nothing is to be said
         pub quiet_untold : (engine_of old).held ≡ [] → joined (engine_of new).held ≡ []
@@ -297,23 +297,23 @@ module _ {P : Type 0} (observed : Type 0) (calls : P → List Call) (disk say : 
             by_cases false none = ap joined (ap part_held (same none) ∙ none_held)
 
 -- no count of faults changes where what is answered can't fail, or nothing is done
-pub still_counts : {P : Type 0} (observed : Type 0) (calls : P → List Call) (disk say : P → ℕ) (mode : SayMode) (event : Event) (result : Option Outcome) (old new : EngineParts P) → IfNone result (new ≡ old)
-    → IfSome result (λ o. AnswersIn observed calls disk say mode event (Ok o) old new) → (disk new.station ≡ disk old.station) × (say new.station ≡ say old.station)
-still_counts {P} observed calls disk say mode event None old new same answered = (ap (λ (p : EngineParts P). disk p.station) same, ap (λ (p : EngineParts P). say p.station) same)
-still_counts observed calls disk say mode event (Some o) old new same answered =
+pub still_counts : {P : Type 0} (station : StationMeanings P) (mode : SayMode) (event : Event) (result : Option Outcome) (old new : EngineParts P) → IfNone result (new ≡ old)
+    → IfSome result (λ o. AnswersIn station mode event (Ok o) old new) → (station.disk_faults new.station ≡ station.disk_faults old.station) × (station.say_faults new.station ≡ station.say_faults old.station)
+still_counts {P} station mode event None old new same answered = (ap (λ (p : EngineParts P). station.disk_faults p.station) same, ap (λ (p : EngineParts P). station.say_faults p.station) same)
+still_counts station mode event (Some o) old new same answered =
     let r : Result Outcome SwitchFault = Ok o in
     let none = no_device_done r o refl in
     (answered.cause.disk_still none.0, answered.cause.say_still none.1)
 
 -- ---- the same in the words of a switch
 
-pub in_words : {P : Type 0} (observed : Type 0) (calls : P → List Call) (disk say : P → ℕ) (mode : SayMode) (event : Event) (result : Result Outcome SwitchFault) (old new : EngineParts P) → old.stopped ≡ None
-    → AnswersIn observed calls disk say mode event result old new → IsAnswered (meanings_of observed calls mode) event result (engine_of old) (engine_of new)
-in_words observed calls disk say mode event result old new going a =
-    answered observed calls mode event result (engine_of old) (engine_of new) a.directory
+pub in_words : {P : Type 0} (station : StationMeanings P) (mode : SayMode) (event : Event) (result : Result Outcome SwitchFault) (old new : EngineParts P) → old.stopped ≡ None
+    → AnswersIn station mode event result old new → IsAnswered (meanings_of station mode) event result (engine_of old) (engine_of new)
+in_words station mode event result old new going a =
+    answered station mode event result (engine_of old) (engine_of new) a.directory
     (λ answer is. (going, let R : Result Outcome SwitchFault → Type 0 = λ r. IfOk r (λ x. (s : State) → Holds old.directory old.core s → x ≡ outcome old.directory s event) in subst R is a.outcome))
     a.called
 
 -- one that stopped answers that alone
-pub stopped_answer : {P : Type 0} (observed : Type 0) (calls : P → List Call) (mode : SayMode) (event : Event) (by : Device) (e : Engine P) → e.stopped ≡ Some by → IsAnswered (meanings_of observed calls mode) event (Err (Stopped by)) e e
-stopped_answer observed calls mode event by e is = answered observed calls mode event (Err (Stopped by)) e e refl (λ answer no. absurd (cc no)) (stopped_leaves observed calls mode event by e is)
+pub stopped_answer : {P : Type 0} (station : StationMeanings P) (mode : SayMode) (event : Event) (by : Device) (e : Engine P) → e.stopped ≡ Some by → IsAnswered (meanings_of station mode) event (Err (Stopped by)) e e
+stopped_answer station mode event by e is = answered station mode event (Err (Stopped by)) e e refl (λ answer no. absurd (cc no)) (stopped_leaves station mode event by e is)

@@ -1,6 +1,6 @@
 -- A take that is gathered behind what was, with nothing settled before.
 use Rattle.std.proofs.Common.{◌≡◌, ℕ, suc, ◌+◌, ◌≤◌, true, false, List, [], ◌∷◌, ◌++◌, length, Option, Some, Ok, None, refl, sym, ap, subst, ◌∙◌, arith, length-append, IfNone, IfSome}
-use Rattle.gts_engine.specs.Cited.{Alone, AnswersIn, AreGathered, AtOnce, Behind, Call, Caller, Directory, EngineParts, Entry, Event, Gathers, GathersOne, Holds, IsOneMore, Origin, Outcome, Outside, Record, SayMode, Shown, State, Taken, TakesBehind, after, engine_of, gathered_after, joined, meanings_of, outcome as outcome_of, pieces, shown, state_at, state_behind}
+use Rattle.gts_engine.specs.Cited.{Alone, AnswersIn, AreGathered, AtOnce, Behind, Caller, Directory, EngineParts, Entry, Event, Gathers, GathersOne, Holds, IsOneMore, Origin, Outcome, Outside, Record, SayMode, Shown, State, StationMeanings, Taken, TakesBehind, after, engine_of, gathered_after, joined, meanings_of, outcome as outcome_of, pieces, shown, state_at, state_behind}
 
 pub length_pieces : (mode : SayMode) (d : Directory) (s : State) (events : List Event) → length (pieces mode d s events) ≡ length events
 length_pieces mode d s [] = refl
@@ -22,10 +22,10 @@ joined_silent [] none = refl
 joined_silent ([] ∷ held) none = joined_silent held none
 joined_silent ((b ∷ bytes) ∷ held) none = absurd (cc none)
 
-pub takes_behind : {P : Type 0} (observed : Type 0) (calls : P → List Call) (disk say : P → ℕ) (c : ℕ) (o : Outcome) (old new : EngineParts P) → old.stopped ≡ None
-    → (engine_of old).gathered ≡ true → (engine_of new).held ≡ (engine_of old).held ++ [] ∷ [] → AnswersIn observed calls disk say Caller (Taken c) (Ok o) old new
-    → TakesBehind observed calls c o (engine_of old) (engine_of new)
-takes_behind {P} observed calls disk say c o old new going gathered held a = record {
+pub takes_behind : {P : Type 0} (station : StationMeanings P) (c : ℕ) (o : Outcome) (old new : EngineParts P) → old.stopped ≡ None
+    → (engine_of old).gathered ≡ true → (engine_of new).held ≡ (engine_of old).held ++ [] ∷ [] → AnswersIn station Caller (Taken c) (Ok o) old new
+    → TakesBehind station c o (engine_of old) (engine_of new)
+takes_behind {P} station c o old new going gathered held a = record {
   directory = a.directory;
   gathers = λ origin entries events g. go origin entries events g (a.called origin entries events g);
   outcome = λ origin entries events g.
@@ -37,21 +37,21 @@ takes_behind {P} observed calls disk say c o old new going gathered held a = rec
     event : Event
     event = Taken c
 
-    go : (origin : Origin) (entries : List Entry) (events : List Event) → Gathers observed Caller origin entries events (shown calls (engine_of old))
-        → GathersOne (meanings_of observed calls Caller) origin entries events (Taken c) (engine_of new) → Gathers observed Caller origin entries (events ++ Taken c ∷ []) (shown calls (engine_of new))
+    go : (origin : Origin) (entries : List Entry) (events : List Event) → Gathers station.observed Caller origin entries events (shown station.calls (engine_of old))
+        → GathersOne (meanings_of station Caller) origin entries events (Taken c) (engine_of new) → Gathers station.observed Caller origin entries (events ++ Taken c ∷ []) (shown station.calls (engine_of new))
     go origin entries events g one = by one.front one.more one.one one.gathers
       where
         many : 1 ≤ length events
-        many = some_event (shown calls (engine_of old)) origin.directory (state_at origin entries) events g.gathered gathered
+        many = some_event (shown station.calls (engine_of old)) origin.directory (state_at origin entries) events g.gathered gathered
 
         long : length (engine_of new).held ≡ length events + 1
         long = ap length held ∙ length-append (engine_of old).held ([] ∷ []) ∙ ap (λ (n : ℕ). n + 1) (ap length g.held ∙ length_pieces Caller origin.directory (state_at origin entries) events)
 
-        by : (front : List Entry) (more : List Event) → IsOneMore entries events (Taken c) front more → Gathers observed Caller origin front more (shown calls (engine_of new))
-            → Gathers observed Caller origin entries (events ++ Taken c ∷ []) (shown calls (engine_of new))
+        by : (front : List Entry) (more : List Event) → IsOneMore entries events (Taken c) front more → Gathers station.observed Caller origin front more (shown station.calls (engine_of new))
+            → Gathers station.observed Caller origin entries (events ++ Taken c ∷ []) (shown station.calls (engine_of new))
         by front more (Behind is all) h =
-            subst (λ (es : List Event). Gathers observed Caller origin entries es (shown calls (engine_of new))) all
-            (subst (λ (l : List Entry). Gathers observed Caller origin l more (shown calls (engine_of new))) is h)
+            subst (λ (es : List Event). Gathers station.observed Caller origin entries es (shown station.calls (engine_of new))) all
+            (subst (λ (l : List Entry). Gathers station.observed Caller origin l more (shown station.calls (engine_of new))) is h)
         by front more (Alone is all) h =
             absurd (let n : length (engine_of new).held ≡ 1 = ap length h.held ∙ length_pieces Caller origin.directory (state_at origin front) more ∙ ap length all in omega (arith, n, long, many))
         by front more (AtOnce is all) h =

@@ -1,6 +1,6 @@
 -- What was gathered is brought into the journal: what that leaves of the parts of an engine.
 use Rattle.std.proofs.Common.{◌≡◌, ◌<◌, false, inl, inr, ⊎_elim, ℕ, List, [], ◌∷◌, ◌++◌, length, take, Option, Some, None, Result, Ok, Err, OnOk, IfErr, refl, sym, ap, subst, ◌∙◌}
-use Rattle.gts_engine.specs.Cited.{Accepted, AfterSettling, Asked, Brings, Call, Choice, Device, Directory, DiskFault, Draw, Draws, Duplicate, EachSince, Engine, Entry, Event, FailsAt, Files, Full, Gathered, Gathers, HasFailed, HasRecord, Heard, InHand, IsCutShort, IsDeviceFault, IsFront, IsGathering, IsImage, Kind, LineLost, Lost, Need, NoMemory, Nothing, Nothing_waits, OpenFault, OpensBetween, Origin, Outcome, Outside, Refused, Repeats, Resend, SaidSince, Say, SayFault, SayMode, SaysBy, Shown, Spent, Standing, StandsFor, State, Stopped, SwitchFault, Taken, after_records, all_done, by_station, choice, event_record, heard_record, joined, meanings_of, need, opens, outcome, pieces, restarted, said, said_by, shown, slice_index_or, stable, state_at, state_behind, stopped_after, taken_record}
+use Rattle.gts_engine.specs.Cited.{Accepted, AfterSettling, Asked, Brings, Call, Choice, Device, Directory, DiskFault, Draw, Draws, Duplicate, EachSince, Engine, Entry, Event, FailsAt, Files, Full, Gathered, Gathers, HasFailed, HasRecord, Heard, InHand, IsCutShort, IsDeviceFault, IsFront, IsGathering, IsImage, Kind, LineLost, Lost, Need, NoMemory, Nothing, Nothing_waits, OpenFault, OpensBetween, Origin, Outcome, Outside, Refused, Repeats, Resend, SaidSince, Say, SayFault, SayMode, SaysBy, Shown, Spent, Standing, StandsFor, State, StationMeanings, Stopped, SwitchFault, Taken, after_records, all_done, by_station, choice, event_record, heard_record, joined, meanings_of, need, opens, outcome, pieces, restarted, said, said_by, shown, slice_index_or, stable, state_at, state_behind, stopped_after, taken_record}
 use Rattle.gts_traits.proofs.LawLemmas.{weaker}
 use Rattle.gts_journal.proofs.LawLemmas.{images_open}
 use Rattle.gts_engine.proofs.EntryLemmas.{only_itself}
@@ -33,13 +33,13 @@ record_has d s (Taken circuit) some = taken_has circuit (choice d s circuit) som
 pub stable_image : (calls : List Call) → IsImage calls (stable calls)
 stable_image calls k = record { size = λ untouched. refl; byte = λ p untouched. refl }
 
-module _ {P : Type 0} (observed : Type 0) (calls : P → List Call) (mode : SayMode) (o : Origin) (h : List Entry) (event : Event) (more : List Event) (first : Engine P) (j : InHand) (b : Gathered)
-    (kept : Gathers observed mode o h (event ∷ more) (shown calls first)) (g : IsGathering observed o.directory (calls first.station) first.core j b) where
+module _ {P : Type 0} (station : StationMeanings P) (mode : SayMode) (o : Origin) (h : List Entry) (event : Event) (more : List Event) (first : Engine P) (j : InHand) (b : Gathered)
+    (kept : Gathers station.observed mode o h (event ∷ more) (shown station.calls first)) (g : IsGathering station.observed o.directory (station.calls first.station) first.core j b) where
   abbrev old : Shown
-  old = shown calls first
+  old = shown station.calls first
 
   abbrev meanings : Standing Origin (Engine P)
-  meanings = meanings_of observed calls mode
+  meanings = meanings_of station mode
 
   abbrev events : List Event
   events = event ∷ more
@@ -54,7 +54,7 @@ module _ {P : Type 0} (observed : Type 0) (calls : P → List Call) (mode : SayM
   going = kept.gathered.1
 
   -- what the journal stands for is what the entries come to
-  first_same : observed → need o.directory (restarted o.directory g.settled) ≡ need o.directory (restarted o.directory s)
+  first_same : station.observed → need o.directory (restarted o.directory g.settled) ≡ need o.directory (restarted o.directory s)
   first_same tell =
       let F : Option Device → Type 0 = λ x. HasFailed x h in
       let none : HasFailed None h = subst F going kept.failed in
@@ -77,7 +77,7 @@ module _ {P : Type 0} (observed : Type 0) (calls : P → List Call) (mode : SayM
   said_whole : joined old.held ≡ all
   said_whole = ap joined kept.held ∙ pieces_join mode o.directory s events
 
-  between : (new : List Call) → EachSince old.calls new (OpensBetween o.directory g.settled led (joined old.held)) → observed → EachSince old.calls new (OpensBetween o.directory s (state_behind o h events) all)
+  between : (new : List Call) → EachSince old.calls new (OpensBetween o.directory g.settled led (joined old.held)) → station.observed → EachSince old.calls new (OpensBetween o.directory s (state_behind o h events) all)
   between new each tell =
       weaker (OpensBetween o.directory g.settled led (joined old.held)) (OpensBetween o.directory s (state_behind o h events) all) old.calls new
       (λ files out left. ⊎_elim
@@ -92,20 +92,20 @@ module _ {P : Type 0} (observed : Type 0) (calls : P → List Call) (mode : SayM
       images_open o.directory led calls next stands files image ∙ ap {A = Need} (λ n. Ok n) second_same
 
   -- saying failed at one of the pieces
-  failed_at : (last : Engine P) (next : InHand) (i : ℕ) → FailsAt observed old.held i old.calls (calls last.station) → last.directory ≡ old.directory → last.gathered ≡ false → last.held ≡ [] → last.stopped ≡ Some Say
-      → (observed → Brings o.directory g.settled led old.held (Err SayFault) old.calls (calls last.station) next) → IsCutShort meanings o h events last
+  failed_at : (last : Engine P) (next : InHand) (i : ℕ) → FailsAt station.observed old.held i old.calls (station.calls last.station) → last.directory ≡ old.directory → last.gathered ≡ false → last.held ≡ [] → last.stopped ≡ Some Say
+      → (station.observed → Brings o.directory g.settled led old.held (Err SayFault) old.calls (station.calls last.station) next) → IsCutShort meanings o h events last
   failed_at last next i fails directory gathered held stopped brings =
-      let new : Shown = shown calls last in
+      let new : Shown = shown station.calls last in
       let W : List Outside → Type 0 = λ ps. i < length ps in
       let cut = cuts_at mode o.directory s events i (subst W kept.held fails.within) in
-      let N : List Outside → Type 0 = λ ps. observed → (part : Outside) × IsFront part (slice_index_or ps i []) × SaidSince old.calls new.calls (joined (take i ps) ++ part) in
+      let N : List Outside → Type 0 = λ ps. station.observed → (part : Outside) × IsFront part (slice_index_or ps i []) × SaidSince old.calls new.calls (joined (take i ps) ++ part) in
       let said_so : N (pieces mode o.directory s events) = subst N kept.held fails.said in
       record {
         before = cut.before;
         first = cut.first;
         rest = cut.rest;
         is = cut.is;
-        leaves = cut_keeps observed mode o h events old kept going new directory gathered held (λ tell. between new.calls (brings tell).moments tell) cut.before cut.first cut.rest cut.is
+        leaves = cut_keeps station.observed mode o h events old kept going new directory gathered held (λ tell. between new.calls (brings tell).moments tell) cut.before cut.first cut.rest cut.is
             stopped (λ tell. images new.calls next (brings tell).stands)
             (λ tell. let p = said_so tell in
             let F : Outside → Type 0 = λ l. IsFront p.0 l in
@@ -114,17 +114,17 @@ module _ {P : Type 0} (observed : Type 0) (calls : P → List Call) (mode : SayM
 
   -- what settling leaves, by its answer
   pub settles : (result : Result (Unit {0}) SwitchFault) (new : Engine P) (next : InHand) → new.directory ≡ old.directory → new.core ≡ old.core → new.gathered ≡ false → new.held ≡ [] → new.stopped ≡ stopped_after old.stopped result
-      → (observed → Brings o.directory g.settled led old.held result old.calls (calls new.station) next) → SaysBy observed old.held result old.calls (calls new.station) → OnOk result (new.used ≡ old.used) → IfErr result IsDeviceFault
+      → (station.observed → Brings o.directory g.settled led old.held result old.calls (station.calls new.station) next) → SaysBy station.observed old.held result old.calls (station.calls new.station) → OnOk result (new.used ≡ old.used) → IfErr result IsDeviceFault
       → AfterSettling meanings o h events result new
   settles (Ok x) new next directory core gathered held stops brings says used kind =
-      settled_all observed mode o h events old kept going (shown calls new) directory gathered held (λ tell. between (calls new.station) (brings tell).moments tell)
+      settled_all station.observed mode o h events old kept going (shown station.calls new) directory gathered held (λ tell. between (station.calls new.station) (brings tell).moments tell)
       (stops ∙ going) core used
-      (λ tell. images (calls new.station) next (brings tell).stands)
+      (λ tell. images (station.calls new.station) next (brings tell).stands)
       (λ tell. says tell ∙ ap (λ (l : Outside). said_by old.calls ++ l) said_whole)
   settles (Err DiskFault) new next directory core gathered held stops brings says used kind =
       record {
         some = λ none. absurd (let no : ◌≡◌ {A = List Event} (event ∷ more) [] = none in cc no);
-        leaves = doubted observed mode o h events old kept going (shown calls new) directory gathered held (λ tell. between (calls new.station) (brings tell).moments tell)
+        leaves = doubted station.observed mode o h events old kept going (shown station.calls new) directory gathered held (λ tell. between (station.calls new.station) (brings tell).moments tell)
             stops (record_has o.directory s event kept.gathered.2) says;
       }
   settles (Err SayFault) new next directory core gathered held stops brings says used kind =

@@ -1,6 +1,6 @@
 -- Calls that gather, and settle behind it.
-use Rattle.std.proofs.Common.{◌≡◌, ℕ, List, Option, Some, None, Result, Ok, Err, refl, sym, ap, subst, ◌∙◌, IfErr, IfSome}
-use Rattle.gts_engine.specs.Cited.{Call, Device, DiskFault, Engine, Event, Full, HasCallCause, IsAnswered, IsCalled, IsDeviceFault, IsIdleAnswer, IsSettling, NoMemory, Outcome, SayFault, SayMode, Spent, Stopped, SwitchFault, meanings_of, stopped_after}
+use Rattle.std.proofs.Common.{◌≡◌, ℕ, Option, Some, None, Result, Ok, Err, refl, sym, ap, subst, ◌∙◌, IfErr, IfSome}
+use Rattle.gts_engine.specs.Cited.{Device, DiskFault, Engine, Event, Full, HasCallCause, IsAnswered, IsCalled, IsDeviceFault, IsIdleAnswer, IsSettling, NoMemory, Outcome, SayFault, SayMode, Spent, StationMeanings, Stopped, SwitchFault, meanings_of, stopped_after}
 use Rattle.gts_engine.proofs.AnswerLemmas.{called_failed, called_unsettled, called_done}
 use Rattle.gts_engine.proofs.AnsweringLemmas.{NoDevice, cause_then, cause_alike, cause_none}
 
@@ -35,32 +35,32 @@ of_fault {T} r fault A is all = subst (λ (x : Result T SwitchFault). IfErr x A)
 pub failed_active : {T : Type 0} (r : Result T SwitchFault) (fault : SwitchFault) → r ≡ Err fault → IfErr r IsDeviceFault → IsIdleAnswer (Err fault) → ⊥
 failed_active r fault is device = device_active fault (of_fault r fault IsDeviceFault is device)
 
-pub unsaid_active : {T : Type 0} (A : Type 0) (r : Result T SwitchFault) (fault : SwitchFault) → r ≡ Err fault → IfErr r (λ f. (f ≡ SayFault) × A) → IsIdleAnswer (Err fault) → ⊥
-unsaid_active A r fault is say =
-    device_active fault (subst IsDeviceFault (sym (of_fault r fault (λ f. (f ≡ SayFault) × A) is say).0) tt)
+pub unsaid_active : {T : Type 0} (r : Result T SwitchFault) (fault : SwitchFault) → r ≡ Err fault → IfErr r (λ f. f ≡ SayFault) → IsIdleAnswer (Err fault) → ⊥
+unsaid_active r fault is say =
+    device_active fault (subst IsDeviceFault (sym (of_fault r fault (λ f. f ≡ SayFault) is say)) tt)
 
-module _ {P : Type 0} (observed : Type 0) (calls : P → List Call) (mode : SayMode) (event : Event) (old mid : Engine P) (first : Result Outcome SwitchFault) (answered : IsAnswered (meanings_of observed calls mode) event first old mid) where
+module _ {P : Type 0} (station : StationMeanings P) (mode : SayMode) (event : Event) (old mid : Engine P) (first : Result Outcome SwitchFault) (answered : IsAnswered (meanings_of station mode) event first old mid) where
   -- the call failed
-  pub fails_first : (fault : SwitchFault) → first ≡ Err fault → IsCalled (meanings_of observed calls mode) event (Err fault) old mid
+  pub fails_first : (fault : SwitchFault) → first ≡ Err fault → IsCalled (meanings_of station mode) event (Err fault) old mid
   fails_first fault is =
-      let A : Result Outcome SwitchFault → Type 0 = λ r. IsAnswered (meanings_of observed calls mode) event r old mid in
-      called_failed observed calls mode event fault old mid (subst A is answered)
+      let A : Result Outcome SwitchFault → Type 0 = λ r. IsAnswered (meanings_of station mode) event r old mid in
+      called_failed station mode event fault old mid (subst A is answered)
 
-  module _ (answer : Outcome) (ok : first ≡ Ok answer) (new : Engine P) (settled : Result (Unit {0}) SwitchFault) (settles : IsSettling (meanings_of observed calls mode) settled mid new) where
-    answered_so : IsAnswered (meanings_of observed calls mode) event (Ok answer) old mid
-    answered_so = let A : Result Outcome SwitchFault → Type 0 = λ r. IsAnswered (meanings_of observed calls mode) event r old mid in subst A ok answered
+  module _ (answer : Outcome) (ok : first ≡ Ok answer) (new : Engine P) (settled : Result (Unit {0}) SwitchFault) (settles : IsSettling (meanings_of station mode) settled mid new) where
+    answered_so : IsAnswered (meanings_of station mode) event (Ok answer) old mid
+    answered_so = let A : Result Outcome SwitchFault → Type 0 = λ r. IsAnswered (meanings_of station mode) event r old mid in subst A ok answered
 
     -- settling failed behind it
-    pub fails_behind : (fault : SwitchFault) → settled ≡ Err fault → IfErr settled IsDeviceFault → IsCalled (meanings_of observed calls mode) event (Err fault) old new
+    pub fails_behind : (fault : SwitchFault) → settled ≡ Err fault → IfErr settled IsDeviceFault → IsCalled (meanings_of station mode) event (Err fault) old new
     fails_behind fault is device =
-        let S : Result (Unit {0}) SwitchFault → Type 0 = λ r. IsSettling (meanings_of observed calls mode) r mid new in
-        called_unsettled observed calls mode event answer fault old mid new answered_so (subst S is settles) (of_fault settled fault IsDeviceFault is device)
+        let S : Result (Unit {0}) SwitchFault → Type 0 = λ r. IsSettling (meanings_of station mode) r mid new in
+        called_unsettled station mode event answer fault old mid new answered_so (subst S is settles) (of_fault settled fault IsDeviceFault is device)
 
     -- all was done
-    pub done_behind : settled ≡ Ok tt → IsCalled (meanings_of observed calls mode) event (Ok answer) old new
+    pub done_behind : settled ≡ Ok tt → IsCalled (meanings_of station mode) event (Ok answer) old new
     done_behind is =
-        let S : Result (Unit {0}) SwitchFault → Type 0 = λ r. IsSettling (meanings_of observed calls mode) r mid new in
-        called_done observed calls mode event answer old mid new answered_so (subst S is settles)
+        let S : Result (Unit {0}) SwitchFault → Type 0 = λ r. IsSettling (meanings_of station mode) r mid new in
+        called_done station mode event answer old mid new answered_so (subst S is settles)
 
 -- what stopped it, and the counts of faults
 module _ (before between after : Option Device) (first : Result Outcome SwitchFault) (settled : Result (Unit {0}) SwitchFault) (one : between ≡ stopped_after before first) (two : after ≡ stopped_after between settled) where

@@ -1,6 +1,6 @@
 -- What an engine stands for whose journal was compacted, or was to be.
 use Rattle.std.proofs.Common.{◌≡◌, true, ℕ, ◌+◌, List, [], ◌∷◌, ◌++◌, length, drop, Option, Some, None, Ok, Err, refl, sym, ap, subst, ◌∙◌, arith, false}
-use Rattle.gts_engine.specs.Cited.{AllByRecursion, Call, Core, Device, Directory, Disk, DiskFault, EachSince, Engine, Entry, Files, HasFailed, HasSaid, Holds, IsAnchor, IsCompaction, IsImage, IsLeft, IsReading, Keeps, LeavesFront, Need, Needs, NoMemory, OpensAsBefore, OpensToReading, Origin, Outside, SaidSince, SameNeed, SayMode, Shown, StaysAt, begun, bytes_of_entries, compacted_after, compacted_bytes, history_of, is_sound, last_or, need, said_by, shown, state_at, told, used_at, written}
+use Rattle.gts_engine.specs.Cited.{AllByRecursion, Core, Device, Directory, Disk, DiskFault, EachSince, Engine, Entry, Files, HasFailed, HasSaid, Holds, IsAnchor, IsCompaction, IsImage, IsLeft, IsReading, Keeps, LeavesFront, Need, Needs, NoMemory, OpensAsBefore, OpensToReading, Origin, Outside, SaidSince, SameNeed, SayMode, Shown, StationMeanings, StaysAt, begun, bytes_of_entries, compacted_after, compacted_bytes, history_of, is_sound, last_or, need, said_by, shown, state_at, told, used_at, written}
 use Rattle.std.proofs.lemmas.List.{append-nil, take_all, drop_all}
 use Rattle.gts_traits.proofs.LawLemmas.{weaker, joined}
 use Rattle.gts_event.proofs.LawLemmas.{need-begun, ordered-begun}
@@ -100,33 +100,33 @@ module _ (observed : Type 0) (mode : SayMode) (o : Origin) (h : List Entry) (old
 
 -- ---- the engine
 
-module _ {P : Type 0} (observed : Type 0) (calls : P → List Call) (old new : Engine P) (going : old.stopped ≡ None) (directory : new.directory ≡ old.directory)
-    (gathered : new.gathered ≡ false) (held : new.held ≡ []) (silent : observed → said_by (calls new.station) ≡ said_by (calls old.station))
-    (moments : observed → StaysAt old.directory old.core (calls old.station) (calls new.station)) where
-  moments_at : (mode : SayMode) (o : Origin) (h : List Entry) → Keeps observed mode o h (shown calls old) → observed → EachSince (calls old.station) (calls new.station) (OpensAsBefore o.directory (state_at o h))
+module _ {P : Type 0} (station : StationMeanings P) (old new : Engine P) (going : old.stopped ≡ None) (directory : new.directory ≡ old.directory)
+    (gathered : new.gathered ≡ false) (held : new.held ≡ []) (silent : station.observed → said_by (station.calls new.station) ≡ said_by (station.calls old.station))
+    (moments : station.observed → StaysAt old.directory old.core (station.calls old.station) (station.calls new.station)) where
+  moments_at : (mode : SayMode) (o : Origin) (h : List Entry) → Keeps station.observed mode o h (shown station.calls old) → station.observed → EachSince (station.calls old.station) (station.calls new.station) (OpensAsBefore o.directory (state_at o h))
   moments_at mode o h kept tell =
-      let M : Directory → Type 0 = λ d. Holds d old.core (state_at o h) → EachSince (calls old.station) (calls new.station) (OpensAsBefore d (state_at o h)) in
+      let M : Directory → Type 0 = λ d. Holds d old.core (state_at o h) → EachSince (station.calls old.station) (station.calls new.station) (OpensAsBefore d (state_at o h)) in
       subst M kept.directory (λ holds. moments tell (state_at o h) holds) (kept.core going)
 
   pub compacted_so : (n : Need) → Needs old.core n → new.stopped ≡ None → new.core ≡ old.core → is_sound old.directory n ≡ true → new.used ≡ compacted_bytes written n
-      → IsCompaction observed calls (Ok tt) old new
+      → IsCompaction station (Ok tt) old new
   compacted_so n needs goes core sound used = record {
     directory = directory;
     done = λ e mode o h kept.
         let n_is : n ≡ need o.directory (state_at o h) = needs o.directory (state_at o h) (kept.core going) in
         let S : Directory → Type 0 = λ d. is_sound d n ≡ true in
         let T : Need → Type 0 = λ m. is_sound o.directory m ≡ true in
-        compacted_keeps observed mode o h (shown calls old) (shown calls new) kept going directory gathered held silent (moments_at mode o h kept) goes core
+        compacted_keeps station.observed mode o h (shown station.calls old) (shown station.calls new) kept going directory gathered held silent (moments_at mode o h kept) goes core
         (subst T n_is (subst S kept.directory sound)) (used ∙ ap (compacted_bytes written) n_is);
     failed = λ e. absurd (cc e);
   }
 
-  pub left_so : new.stopped ≡ Some Disk → IsCompaction observed calls (Err DiskFault) old new
+  pub left_so : new.stopped ≡ Some Disk → IsCompaction station (Err DiskFault) old new
   left_so stopped = record {
     directory = directory;
     done = λ e. absurd (cc e);
-    failed = λ e mode o h kept. left_behind observed mode o h (shown calls old) (shown calls new) kept going directory gathered held silent (moments_at mode o h kept) stopped;
+    failed = λ e mode o h kept. left_behind station.observed mode o h (shown station.calls old) (shown station.calls new) kept going directory gathered held silent (moments_at mode o h kept) stopped;
   }
 
-pub memory_so : {P : Type 0} (observed : Type 0) (calls : P → List Call) (old new : Engine P) → new.directory ≡ old.directory → IsCompaction observed calls (Err NoMemory) old new
-memory_so observed calls old new directory = record { directory = directory; done = λ e. absurd (cc e); failed = λ e. absurd (cc e) }
+pub memory_so : {P : Type 0} (station : StationMeanings P) (old new : Engine P) → new.directory ≡ old.directory → IsCompaction station (Err NoMemory) old new
+memory_so station old new directory = record { directory = directory; done = λ e. absurd (cc e); failed = λ e. absurd (cc e) }

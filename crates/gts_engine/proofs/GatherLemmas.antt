@@ -1,6 +1,6 @@
 -- One event more is gathered: what an engine keeps then, and what a call leaves.
 use Rattle.std.proofs.Common.{◌≡◌, ◌⊎◌, ◌+◌, ◌≤◌, true, false, inl, inr, ℕ, Bool, List, [], ◌∷◌, ◌++◌, length, Option, None, Result, Ok, Err, refl, sym, ap, subst, ◌∙◌, arith}
-use Rattle.gts_engine.specs.Cited.{AfterCall, AfterSettling, Alone, AreGathered, AtOnce, Behind, Call, Device, Directory, DiskFault, Done, Engine, EngineParts, Enters, Entry, Event, Full, Gathers, GathersOne, HasFailed, HasFewDraws, Holds, IsOneMore, Keeps, Leaving, MOST_TOGETHER, MayHaveSettled, NoMemory, Origin, Outcome, Outside, Record, SayFault, SayMode, Shown, Spent, Standing, State, Stopped, SwitchFault, after, after_all, all_done, by_station, draws_among, draws_in, engine_of, event_record, gathered_after, meanings_of, outcome, pieces, record_bytes, shown, shows, slice_index_or, spoken, state_at, state_behind, used_at, used_behind}
+use Rattle.gts_engine.specs.Cited.{AfterCall, AfterSettling, Alone, AreGathered, AtOnce, Behind, Device, Directory, DiskFault, Done, Engine, EngineParts, Enters, Entry, Event, Full, Gathers, GathersOne, HasFailed, HasFewDraws, Holds, IsOneMore, Keeps, Leaving, MOST_TOGETHER, MayHaveSettled, NoMemory, Origin, Outcome, Outside, Record, SayFault, SayMode, Shown, Spent, Standing, State, StationMeanings, Stopped, SwitchFault, after, after_all, all_done, by_station, draws_among, draws_in, engine_of, event_record, gathered_after, meanings_of, outcome, pieces, record_bytes, shown, shows, slice_index_or, spoken, state_at, state_behind, used_at, used_behind}
 use Rattle.std.proofs.lemmas.List.{append-nil}
 use Rattle.gts_event.proofs.LawLemmas.{after_all-append}
 use Rattle.gts_engine.proofs.SettleLemmas.{done_append}
@@ -93,19 +93,19 @@ all_so_far entries events front more (inl same) none =
     same.0 ∙ sym (append-nil entries) ∙ ap (λ (es : List Event). entries ++ all_done es) (sym none ∙ same.1)
 all_so_far entries events front more (inr settled) none = settled.0
 
-module _ {P : Type 0} (observed : Type 0) (calls : P → List Call) (mode : SayMode) (o : Origin) (entries : List Entry) (events : List Event) (event : Event) where
+module _ {P : Type 0} (station : StationMeanings P) (mode : SayMode) (o : Origin) (entries : List Entry) (events : List Event) (event : Event) where
   abbrev meanings : Standing Origin (Engine P)
-  meanings = meanings_of observed calls mode
+  meanings = meanings_of station mode
 
   -- an engine that may have settled what it gathered stands for the same
   pub record Starts (e : Engine P) : Type 0 where
     pub front : List Entry
     pub more : List Event
     pub is : MayBeSettled entries events front more
-    pub gathers : Gathers observed mode o front more (shown calls e)
+    pub gathers : Gathers station.observed mode o front more (shown station.calls e)
 
   -- it was gathered
-  pub gathered_call : (mid new : Engine P) (starts : Starts mid) → Gathers observed mode o starts.front (starts.more ++ event ∷ []) (shown calls new) → GathersOne meanings o entries events event new
+  pub gathered_call : (mid new : Engine P) (starts : Starts mid) → Gathers station.observed mode o starts.front (starts.more ++ event ∷ []) (shown station.calls new) → GathersOne meanings o entries events event new
   gathered_call mid new starts gathers =
       record { front = starts.front; more = starts.more ++ event ∷ []; one = one_behind entries events event starts.front starts.more starts.is; gathers = gathers }
 
@@ -113,7 +113,7 @@ module _ {P : Type 0} (observed : Type 0) (calls : P → List Call) (mode : SayM
   so_far mid starts none = all_so_far entries events starts.front starts.more starts.is none
 
   -- it was said at once
-  pub said_call : (mid new : Engine P) (starts : Starts mid) → starts.more ≡ [] → Keeps observed mode o (starts.front ++ Done event ∷ []) (shown calls new) → GathersOne meanings o entries events event new
+  pub said_call : (mid new : Engine P) (starts : Starts mid) → starts.more ≡ [] → Keeps station.observed mode o (starts.front ++ Done event ∷ []) (shown station.calls new) → GathersOne meanings o entries events event new
   said_call mid new starts none keeps = record {
     front = starts.front ++ Done event ∷ [];
     more = [];
@@ -122,12 +122,12 @@ module _ {P : Type 0} (observed : Type 0) (calls : P → List Call) (mode : SayM
   }
 
   -- what may have settled begins it
-  pub starts_after : (disk say : P → ℕ) (result : Result (Unit {0}) SwitchFault) (old mid : EngineParts P) → result ≡ Ok tt → MayHaveSettled observed calls disk say result old mid
-      → Gathers observed mode o entries events (shows calls old) → Starts (engine_of mid)
-  starts_after disk say result old mid done (inl same) kept =
-      let G : EngineParts P → Type 0 = λ p. Gathers observed mode o entries events (shows calls p) in
+  pub starts_after : (result : Result (Unit {0}) SwitchFault) (old mid : EngineParts P) → result ≡ Ok tt → MayHaveSettled station result old mid
+      → Gathers station.observed mode o entries events (shows station.calls old) → Starts (engine_of mid)
+  starts_after result old mid done (inl same) kept =
+      let G : EngineParts P → Type 0 = λ p. Gathers station.observed mode o entries events (shows station.calls p) in
       record { front = entries; more = events; is = inl (refl, refl); gathers = subst G (sym same.1) kept }
-  starts_after disk say result old mid done (inr settled) kept =
+  starts_after result old mid done (inr settled) kept =
       let A : Result (Unit {0}) SwitchFault → Type 0 = λ r. AfterSettling meanings o entries events r (engine_of mid) in
       record { front = entries ++ all_done events; more = []; is = inr (refl, refl); gathers = subst A done (settled.settles mode o entries events kept) }
 
@@ -140,9 +140,9 @@ module _ {P : Type 0} (observed : Type 0) (calls : P → List Call) (mode : SayM
   fails_by Spent e after = absurd after
   fails_by NoMemory e after = absurd after
 
-  pub fails_after : (disk say : P → ℕ) (result : Result (Unit {0}) SwitchFault) (fault : SwitchFault) (old mid : EngineParts P) → result ≡ Err fault → MayHaveSettled observed calls disk say result old mid
-      → Gathers observed mode o entries events (shows calls old) → AfterCall meanings o entries events event (Err fault) (engine_of mid)
-  fails_after disk say result fault old mid failed (inl same) kept = absurd (let no : ◌≡◌ {A = Result (Unit {0}) SwitchFault} (Ok tt) (Err fault) = sym same.0 ∙ failed in cc no)
-  fails_after disk say result fault old mid failed (inr settled) kept =
+  pub fails_after : (result : Result (Unit {0}) SwitchFault) (fault : SwitchFault) (old mid : EngineParts P) → result ≡ Err fault → MayHaveSettled station result old mid
+      → Gathers station.observed mode o entries events (shows station.calls old) → AfterCall meanings o entries events event (Err fault) (engine_of mid)
+  fails_after result fault old mid failed (inl same) kept = absurd (let no : ◌≡◌ {A = Result (Unit {0}) SwitchFault} (Ok tt) (Err fault) = sym same.0 ∙ failed in cc no)
+  fails_after result fault old mid failed (inr settled) kept =
       let A : Result (Unit {0}) SwitchFault → Type 0 = λ r. AfterSettling meanings o entries events r (engine_of mid) in
       fails_by fault (engine_of mid) (subst A failed (settled.settles mode o entries events kept))

@@ -1,6 +1,6 @@
 -- A call that changes nothing, behind what was settled.
 use Rattle.std.proofs.Common.{◌≡◌, inr, ℕ, List, [], ◌∷◌, ◌++◌, true, false, Option, None, Result, Ok, Err, refl, sym, ap, subst, ◌∙◌}
-use Rattle.gts_engine.specs.Cited.{AfterCall, AnswersIn, Call, Core, Device, Directory, DiskFault, Engine, EngineParts, Entry, Event, Full, Gathers, GivesOrMemory, HasCallCause, HasOnlySettled, HasSettled, Holds, Idle, IsAccepted, IsGathering, IsRoomFault, IsSettling, IsSound, IsUnchanged, Keeps, LeavesCall, NoMemory, Origin, Outcome, SayFault, SayMode, Shown, Spent, Standing, State, Stopped, SwitchFault, all_done, engine_of, full, meanings_of, outcome, shown, shows, state_at, state_behind, stopped_after, used_at}
+use Rattle.gts_engine.specs.Cited.{AfterCall, AnswersIn, Core, Device, Directory, DiskFault, Engine, EngineParts, Entry, Event, Full, Gathers, GivesOrMemory, HasCallCause, HasOnlySettled, HasSettled, HasStationCause, Holds, Idle, IsAccepted, IsGathering, IsRoomFault, IsSettling, IsSound, IsUnchanged, Keeps, LeavesCall, NoMemory, Origin, Outcome, SayFault, SayMode, Shown, Spent, Standing, State, StationMeanings, Stopped, SwitchFault, all_done, engine_of, full, meanings_of, outcome, shown, shows, state_at, state_behind, stopped_after, used_at}
 use Rattle.gts_core.specs.Core.{Keeps as KeepsCore}
 use Rattle.std.proofs.lemmas.Result.{IfOk-weaker}
 use Rattle.gts_engine.proofs.SettlingLemmas.{parts_settle}
@@ -29,10 +29,10 @@ gathers_kept observed mode o h events e core keeps kept = record {
   leaves = kept.leaves;
 }
 
-pub kept_sound : {P : Type 0} (observed : Type 0) (calls : P → List Call) (old : EngineParts P) → IsSound observed calls old → (core : Core) → KeepsCore old.core core → IsSound observed calls (record old { core = core })
-kept_sound observed calls old sound core keeps = record {
+pub kept_sound : {P : Type 0} (station : StationMeanings P) (old : EngineParts P) → IsSound station old → (core : Core) → KeepsCore old.core core → IsSound station (record old { core = core })
+kept_sound station old sound core keeps = record {
   goes = λ going.
-      let g : IsGathering observed old.directory (calls old.station) old.core old.journal old.batch = sound.goes going in
+      let g : IsGathering station.observed old.directory (station.calls old.station) old.core old.journal old.batch = sound.goes going in
       record {
         state = g.state;
         holds = keeps old.directory g.state g.holds;
@@ -55,27 +55,27 @@ kept_sound observed calls old sound core keeps = record {
 }
 
 -- parts whose core keeps what it holds stand for what they stood for
-pub prepared_keeps : {P : Type 0} (observed : Type 0) (calls : P → List Call) (mode : SayMode) (old mid : EngineParts P) → mid ≡ record old { core = mid.core } → KeepsCore old.core mid.core → (o : Origin) (entries : List Entry) (events : List Event)
-    → Gathers observed mode o entries events (shows calls old) → Gathers observed mode o entries events (shows calls mid)
-prepared_keeps observed calls mode old mid rest keeps o entries events kept =
-    let S : Shown → Type 0 = λ e. Gathers observed mode o entries events e in
-    subst S (sym (ap (shows calls) rest)) (gathers_kept observed mode o entries events (shows calls old) mid.core keeps kept)
+pub prepared_keeps : {P : Type 0} (station : StationMeanings P) (mode : SayMode) (old mid : EngineParts P) → mid ≡ record old { core = mid.core } → KeepsCore old.core mid.core → (o : Origin) (entries : List Entry) (events : List Event)
+    → Gathers station.observed mode o entries events (shows station.calls old) → Gathers station.observed mode o entries events (shows station.calls mid)
+prepared_keeps station mode old mid rest keeps o entries events kept =
+    let S : Shown → Type 0 = λ e. Gathers station.observed mode o entries events e in
+    subst S (sym (ap (shows station.calls) rest)) (gathers_kept station.observed mode o entries events (shows station.calls old) mid.core keeps kept)
 
-module _ {P : Type 0} (observed : Type 0) (calls : P → List Call) (mode : SayMode) (event : Event) where
+module _ {P : Type 0} (station : StationMeanings P) (mode : SayMode) (event : Event) where
   abbrev meanings : Standing Origin (Engine P)
-  meanings = meanings_of observed calls mode
+  meanings = meanings_of station mode
 
   -- there was no room, or no memory
-  pub idle_behind : (o : Origin) (h : List Entry) (fault : SwitchFault) (e : Engine P) → IsRoomFault fault → Keeps observed mode o h (shown calls e) → GivesOrMemory (Err fault) (full o.directory (state_at o h) (used_at o h) event)
-      → IsAccepted (outcome o.directory (state_at o h) event) → Keeps observed mode o (h ++ Idle event fault ∷ []) (shown calls e)
-  idle_behind o h (Full at wanted limit) e is kept gives accepted = idle mode o h event observed (Full at wanted limit) (shown calls e) gives kept
-  idle_behind o h NoMemory e is kept gives accepted = idle mode o h event observed NoMemory (shown calls e) accepted kept
+  pub idle_behind : (o : Origin) (h : List Entry) (fault : SwitchFault) (e : Engine P) → IsRoomFault fault → Keeps station.observed mode o h (shown station.calls e) → GivesOrMemory (Err fault) (full o.directory (state_at o h) (used_at o h) event)
+      → IsAccepted (outcome o.directory (state_at o h) event) → Keeps station.observed mode o (h ++ Idle event fault ∷ []) (shown station.calls e)
+  idle_behind o h (Full at wanted limit) e is kept gives accepted = idle mode o h event station.observed (Full at wanted limit) (shown station.calls e) gives kept
+  idle_behind o h NoMemory e is kept gives accepted = idle mode o h event station.observed NoMemory (shown station.calls e) accepted kept
   idle_behind o h DiskFault e is kept gives accepted = absurd is
   idle_behind o h SayFault e is kept gives accepted = absurd is
   idle_behind o h (Stopped by) e is kept gives accepted = absurd is
   idle_behind o h Spent e is kept gives accepted = absurd is
 
-  as_answered : (o : Origin) (entries : List Entry) (events : List Event) (fault : SwitchFault) (e : Engine P) → IsRoomFault fault → Keeps observed mode o ((entries ++ all_done events) ++ Idle event fault ∷ []) (shown calls e) → AfterCall meanings o entries events event (Err fault) e
+  as_answered : (o : Origin) (entries : List Entry) (events : List Event) (fault : SwitchFault) (e : Engine P) → IsRoomFault fault → Keeps station.observed mode o ((entries ++ all_done events) ++ Idle event fault ∷ []) (shown station.calls e) → AfterCall meanings o entries events event (Err fault) e
   as_answered o entries events (Full at wanted limit) e is kept = kept
   as_answered o entries events NoMemory e is kept = kept
   as_answered o entries events DiskFault e is kept = absurd is
@@ -83,41 +83,41 @@ module _ {P : Type 0} (observed : Type 0) (calls : P → List Call) (mode : SayM
   as_answered o entries events (Stopped by) e is kept = absurd is
   as_answered o entries events Spent e is kept = absurd is
 
-  module _ (disk say : P → ℕ) (old mid new : EngineParts P) (rest : mid ≡ record old { core = mid.core }) (keeps : KeepsCore old.core mid.core) (going : old.stopped ≡ None) (settles : HasSettled observed calls disk say (Ok tt) mid new) (fault : SwitchFault) (is : IsRoomFault fault)
-      (gives : EachHeld observed calls mode event (engine_of old) (λ d s. GivesOrMemory (Err fault) (full d s (engine_of old).used event))) (accepted : EachHeld observed calls mode event (engine_of old) (λ d s. IsAccepted (outcome d s event))) where
+  module _ (old mid new : EngineParts P) (rest : mid ≡ record old { core = mid.core }) (keeps : KeepsCore old.core mid.core) (going : old.stopped ≡ None) (settles : HasSettled station (Ok tt) mid new) (fault : SwitchFault) (is : IsRoomFault fault)
+      (gives : EachHeld station mode event (engine_of old) (λ d s. GivesOrMemory (Err fault) (full d s (engine_of old).used event))) (accepted : EachHeld station mode event (engine_of old) (λ d s. IsAccepted (outcome d s event))) where
     goes_new : new.stopped ≡ None
     goes_new = settles.stops ∙ ap (λ (p : EngineParts P). p.stopped) rest ∙ going
 
     -- what was gathered is settled, and the call is idle behind it
-    pub room_leaves : LeavesCall observed calls mode event (Err fault) (engine_of old) (engine_of new)
+    pub room_leaves : LeavesCall station mode event (Err fault) (engine_of old) (engine_of new)
     room_leaves o entries events kept =
         let h : List Entry = entries ++ all_done events in
-        let settled : Keeps observed mode o h (shown calls (engine_of new)) = settles.settles mode o entries events (prepared_keeps observed calls mode old mid rest keeps o entries events kept) in
+        let settled : Keeps station.observed mode o h (shown station.calls (engine_of new)) = settles.settles mode o entries events (prepared_keeps station mode old mid rest keeps o entries events kept) in
         let used : (engine_of old).used ≡ used_at o h = sym (ap part_used rest) ∙ sym settles.used ∙ settled.used goes_new in
         let F : State → Type 0 = λ s. GivesOrMemory (Err fault) (full o.directory s (engine_of old).used event) in
         let U : ℕ → Type 0 = λ n. GivesOrMemory (Err fault) (full o.directory (state_at o h) n event) in
         let A : State → Type 0 = λ s. IsAccepted (outcome o.directory s event) in
         as_answered o entries events fault (engine_of new) is
         (idle_behind o h fault (engine_of new) is settled
-        (subst U used (subst F (sym (state_behind_marked true o entries events)) (at_state observed calls mode event o entries events (engine_of old) (λ d s. GivesOrMemory (Err fault) (full d s (engine_of old).used event)) kept going gives)))
-        (subst A (sym (state_behind_marked true o entries events)) (at_state observed calls mode event o entries events (engine_of old) (λ d s. IsAccepted (outcome d s event)) kept going accepted)))
+        (subst U used (subst F (sym (state_behind_marked true o entries events)) (at_state station mode event o entries events (engine_of old) (λ d s. GivesOrMemory (Err fault) (full d s (engine_of old).used event)) kept going gives)))
+        (subst A (sym (state_behind_marked true o entries events)) (at_state station mode event o entries events (engine_of old) (λ d s. IsAccepted (outcome d s event)) kept going accepted)))
 
 -- ---- calls behind a core for which all is prepared
 
-pub prepared_sound : {P : Type 0} (observed : Type 0) (calls : P → List Call) (old mid : EngineParts P) → mid ≡ record old { core = mid.core } → KeepsCore old.core mid.core → IsSound observed calls old → IsSound observed calls mid
-prepared_sound {P} observed calls old mid rest keeps sound = subst (λ (p : EngineParts P). IsSound observed calls p) (sym rest) (kept_sound observed calls old sound mid.core keeps)
+pub prepared_sound : {P : Type 0} (station : StationMeanings P) (old mid : EngineParts P) → mid ≡ record old { core = mid.core } → KeepsCore old.core mid.core → IsSound station old → IsSound station mid
+prepared_sound {P} station old mid rest keeps sound = subst (λ (p : EngineParts P). IsSound station p) (sym rest) (kept_sound station old sound mid.core keeps)
 
 -- what was gathered was settled behind a core for which all is prepared
-pub only_settled : {P : Type 0} (observed : Type 0) (calls : P → List Call) (disk say : P → ℕ) (old mid new : EngineParts P) → mid ≡ record old { core = mid.core } → KeepsCore old.core mid.core → (settled : Result (Unit {0}) SwitchFault)
-    → HasSettled observed calls disk say settled mid new → settled ≡ Ok tt → HasOnlySettled observed calls (engine_of old) (engine_of new)
-only_settled observed calls disk say old mid new rest keeps settled settles ok = record {
+pub only_settled : {P : Type 0} (station : StationMeanings P) (old mid new : EngineParts P) → mid ≡ record old { core = mid.core } → KeepsCore old.core mid.core → (settled : Result (Unit {0}) SwitchFault)
+    → HasSettled station settled mid new → settled ≡ Ok tt → HasOnlySettled station (engine_of old) (engine_of new)
+only_settled station old mid new rest keeps settled settles ok = record {
   settling = λ mode.
-      let S : Result (Unit {0}) SwitchFault → Type 0 = λ r. IsSettling (meanings_of observed calls mode) r (engine_of mid) (engine_of new) in
-      let p = subst S ok (parts_settle observed calls disk say mode settled mid new settles) in
+      let S : Result (Unit {0}) SwitchFault → Type 0 = λ r. IsSettling (meanings_of station mode) r (engine_of mid) (engine_of new) in
+      let p = subst S ok (parts_settle station mode settled mid new settles) in
       record {
         directory = p.directory ∙ ap part_directory rest;
-        settles = λ o entries events kept. p.settles o entries events (prepared_keeps observed calls mode old mid rest keeps o entries events kept);
-        rests = λ o h kept. p.rests o h (prepared_keeps observed calls mode old mid rest keeps o h [] kept);
+        settles = λ o entries events kept. p.settles o entries events (prepared_keeps station mode old mid rest keeps o entries events kept);
+        rests = λ o h kept. p.rests o h (prepared_keeps station mode old mid rest keeps o h [] kept);
       };
   emptied = settles.emptied;
 }
@@ -145,21 +145,21 @@ no_device SayFault r a b x y is none c = absurd is
 no_device (Stopped by) r a b x y is none c = absurd is
 no_device Spent r a b x y is none c = absurd is
 
-module _ {P : Type 0} (observed : Type 0) (calls : P → List Call) (disk say : P → ℕ) (mode : SayMode) (event : Event) (old mid new : EngineParts P) (rest : mid ≡ record old { core = mid.core }) (keeps : KeepsCore old.core mid.core) where
+module _ {P : Type 0} (station : StationMeanings P) (mode : SayMode) (event : Event) (old mid new : EngineParts P) (rest : mid ≡ record old { core = mid.core }) (keeps : KeepsCore old.core mid.core) where
   -- what is answered behind it is answered
-  pub answers_prepared : (result : Result Outcome SwitchFault) → AnswersIn observed calls disk say mode event result mid new → AnswersIn observed calls disk say mode event result old new
+  pub answers_prepared : (result : Result Outcome SwitchFault) → AnswersIn station mode event result mid new → AnswersIn station mode event result old new
   answers_prepared result a = record {
-    called = λ o entries events kept. a.called o entries events (prepared_keeps observed calls mode old mid rest keeps o entries events kept);
+    called = λ o entries events kept. a.called o entries events (prepared_keeps station mode old mid rest keeps o entries events kept);
     outcome = IfOk-weaker result (λ x. (s : State) → Holds mid.directory mid.core s → x ≡ outcome mid.directory s event) (λ x. (s : State) → Holds old.directory old.core s → x ≡ outcome old.directory s event)
         (λ x each s holds. let D : Directory → Type 0 = λ d. Holds d mid.core s → x ≡ outcome d s event in subst D (ap part_directory rest) (each s) (keeps old.directory s holds))
         a.outcome;
     directory = a.directory ∙ ap part_directory rest;
     sound = a.sound;
     stops = a.stops ∙ ap (λ (by : Option Device). stopped_after by result) (ap part_stopped rest);
-    cause = subst (λ (p : P). HasCallCause result (disk p) (disk new.station) (say p) (say new.station)) (ap part_station rest) a.cause;
+    cause = subst (λ (p : P). HasStationCause station result p new.station) (ap part_station rest) a.cause;
   }
 
-  module _ (settled : Result (Unit {0}) SwitchFault) (settles : HasSettled observed calls disk say settled mid new) where
+  module _ (settled : Result (Unit {0}) SwitchFault) (settles : HasSettled station settled mid new) where
     -- where nothing was gathered, nothing changed but how the core holds what it held
     pub unchanged_idle : (engine_of old).gathered ≡ false → IsUnchanged (engine_of old) (engine_of new)
     unchanged_idle none =
@@ -168,23 +168,23 @@ module _ {P : Type 0} (observed : Type 0) (calls : P → List Call) (disk say : 
         (record { station = refl; directory = refl; core = keeps; used = refl; stopped = refl; gathered = refl; held = refl; drawn = refl })
 
     -- settling failed
-    pub answers_unidled : IsSound observed calls old → (fault : SwitchFault) → settled ≡ Err fault → AnswersIn observed calls disk say mode event (Err fault) old new
+    pub answers_unidled : IsSound station old → (fault : SwitchFault) → settled ≡ Err fault → AnswersIn station mode event (Err fault) old new
     answers_unidled sound fault failed =
-        answers_prepared (Err fault) (answers_uncleared observed calls disk say mode event mid new settled (inr settles) fault failed (prepared_sound observed calls old mid rest keeps sound))
+        answers_prepared (Err fault) (answers_uncleared station mode event mid new settled (inr settles) fault failed (prepared_sound station old mid rest keeps sound))
 
     -- or all was settled, and there is no room, or no memory
     pub answers_idle : settled ≡ Ok tt → old.stopped ≡ None → (fault : SwitchFault) → IsRoomFault fault
-        → EachHeld observed calls mode event (engine_of old) (λ d s. GivesOrMemory (Err fault) (full d s (engine_of old).used event)) → EachHeld observed calls mode event (engine_of old) (λ d s. IsAccepted (outcome d s event))
-        → AnswersIn observed calls disk say mode event (Err fault) old new
+        → EachHeld station mode event (engine_of old) (λ d s. GivesOrMemory (Err fault) (full d s (engine_of old).used event)) → EachHeld station mode event (engine_of old) (λ d s. IsAccepted (outcome d s event))
+        → AnswersIn station mode event (Err fault) old new
     answers_idle ok going fault is gives accepted = record {
       called =
-          let H : Result (Unit {0}) SwitchFault → Type 0 = λ r. HasSettled observed calls disk say r mid new in
-          room_leaves observed calls mode event disk say old mid new rest keeps going (subst H ok settles) fault is gives accepted;
+          let H : Result (Unit {0}) SwitchFault → Type 0 = λ r. HasSettled station r mid new in
+          room_leaves station mode event old mid new rest keeps going (subst H ok settles) fault is gives accepted;
       outcome = tt;
       directory = ap part_directory settles.rest ∙ ap part_directory rest;
       sound = settles.sound;
       stops = settles.stops ∙ ap (stopped_after mid.stopped) ok ∙ ap part_stopped rest ∙ sym (room_stops fault old.stopped is);
       cause =
-          subst (λ (p : P). HasCallCause (let e : Result Outcome SwitchFault = Err fault in e) (disk p) (disk new.station) (say p) (say new.station)) (ap part_station rest)
-          (no_device fault settled (disk mid.station) (disk new.station) (say mid.station) (say new.station) is (no_device_done settled tt ok) settles.cause);
+          subst (λ (p : P). HasStationCause station (let e : Result Outcome SwitchFault = Err fault in e) p new.station) (ap part_station rest)
+          (no_device fault settled (station.disk_faults mid.station) (station.disk_faults new.station) (station.say_faults mid.station) (station.say_faults new.station) is (no_device_done settled tt ok) settles.cause);
     }

@@ -1,18 +1,18 @@
 -- Room is made for a bulletin that may be gathered.
 use Rattle.std.proofs.Common.{◌≡◌, inl, inr, ℕ, Bool, true, false, List, [], ◌∷◌, ◌++◌, Some, None, Result, Ok, Err, refl, sym, ap, subst, ◌∙◌, IsOk, IsSome, IfSome, is_ok}
 use Rattle.std.proofs.lemmas.List.{append-nil}
-use Rattle.gts_engine.specs.Cited.{Call, Directory, Disk, DiskFault, Engine, Entry, Event, Full, Gathers, GivesRoom, HadRoomFor, HasOnlySettled, Heard, Holds, Idle, IsAccepted, IsAnswerCause, IsAnswered, IsCompactFault, IsCompaction, IsFullCompacted, IsFullEither, IsGatheredWithRoom, IsIdleFault, Keeps, Kind, NoMemory, Origin, Outcome, Say, SayFault, SayMode, Spent, Standing, State, Stopped, SwitchFault, TellsSpare, after_all, all_done, begun, bytes_wanted, compacted_after, full, meanings_of, outcome, shown, state_at, state_behind, stopped_after, used_at}
+use Rattle.gts_engine.specs.Cited.{Directory, Disk, DiskFault, Engine, Entry, Event, Full, Gathers, GivesRoom, HadRoomFor, HasOnlySettled, Heard, Holds, Idle, IsAccepted, IsAnswerCause, IsAnswered, IsCompactFault, IsCompaction, IsFullCompacted, IsFullEither, IsGatheredWithRoom, IsIdleFault, Keeps, Kind, NoMemory, Origin, Outcome, Say, SayFault, SayMode, Spent, Standing, State, StationMeanings, Stopped, SwitchFault, TellsSpare, after_all, all_done, begun, bytes_wanted, compacted_after, full, meanings_of, outcome, shown, state_at, state_behind, stopped_after, used_at}
 use Rattle.gts_engine.proofs.MarkedLemmas.{state_behind_marked, used_marked}
 use Rattle.gts_engine.proofs.TurnLemmas.{idle}
 use Rattle.gts_engine.proofs.CompactingLemmas.{used_compacted}
 use Rattle.gts_engine.proofs.RoomingLemmas.{full_accepted, pays, fits_compacted, holds_due, cramped, doubt_left, full_is, recorded, went_on}
 
-module _ {P : Type 0} (observed : Type 0) (calls : P → List Call) (mode : SayMode) (c : ℕ) (kind : Kind) (message : List ℕ) where
+module _ {P : Type 0} (station : StationMeanings P) (mode : SayMode) (c : ℕ) (kind : Kind) (message : List ℕ) where
   abbrev heard : Event
   heard = Heard c kind message
 
   abbrev meanings : Standing Origin (Engine P)
-  meanings = meanings_of observed calls mode
+  meanings = meanings_of station mode
 
   -- a cause that isn't want of room
   other_cause : (F G : SwitchFault → Type 0) (h : List Entry) (o : Outcome) (fault : SwitchFault) → ((used need limit : ℕ) → fault ≡ Full used need limit → ⊥) → IsAnswerCause F h o fault → IsAnswerCause G h o fault
@@ -39,7 +39,7 @@ module _ {P : Type 0} (observed : Type 0) (calls : P → List Call) (mode : SayM
 
   -- what was answered stands, but for want of room
   pub gathers_plain : (result : Result Outcome SwitchFault) (old new : Engine P) → IsAnswered meanings heard result old new → HadRoomFor old heard result
-      → IfSome old.stopped (λ by. (result ≡ Err (Stopped by)) × (new ≡ old)) → bytes_wanted result ≡ None → IsGatheredWithRoom observed calls mode heard result old new
+      → IfSome old.stopped (λ by. (result ≡ Err (Stopped by)) × (new ≡ old)) → bytes_wanted result ≡ None → IsGatheredWithRoom station mode heard result old new
   gathers_plain result old new called had stopped other = record {
     directory = called.directory;
     adds = λ o entries events kept. inl (record { leaves = called.adds o entries events kept; had_room = λ ok. roomy o entries events kept ok });
@@ -54,7 +54,7 @@ module _ {P : Type 0} (observed : Type 0) (calls : P → List Call) (mode : SayM
       not_stopped : IsOk result → old.stopped ≡ None
       not_stopped ok = went_on (new ≡ old) result old.stopped stopped (λ by e. let x : false ≡ true = sym (ap is_ok e) ∙ ok in absurd (cc x))
 
-      roomy : (o : Origin) (entries : List Entry) (events : List Event) → Gathers observed mode o entries events (shown calls old) → IsOk result
+      roomy : (o : Origin) (entries : List Entry) (events : List Event) → Gathers station.observed mode o entries events (shown station.calls old) → IsOk result
           → full o.directory (state_at o (entries ++ all_done events)) (used_at o (entries ++ all_done events)) heard ≡ None
       roomy o entries events kept ok =
           let h : List Entry = entries ++ all_done events in
@@ -71,7 +71,7 @@ module _ {P : Type 0} (observed : Type 0) (calls : P → List Call) (mode : SayM
   -- ---- the journal was full
 
   module _ (first : Result Outcome SwitchFault) (bytes : ℕ) (wanted : bytes_wanted first ≡ Some bytes) (old mid : Engine P) (called : IsAnswered meanings heard first old mid)
-      (stopped : IfSome old.stopped (λ by. (first ≡ Err (Stopped by)) × (mid ≡ old))) (stops : mid.stopped ≡ stopped_after old.stopped first) (settles : HasOnlySettled observed calls old mid) where
+      (stopped : IfSome old.stopped (λ by. (first ≡ Err (Stopped by)) × (mid ≡ old))) (stops : mid.stopped ≡ stopped_after old.stopped first) (settles : HasOnlySettled station old mid) where
     abbrev used_then : ℕ
     used_then = (full_is first bytes wanted).0
 
@@ -90,11 +90,11 @@ module _ {P : Type 0} (observed : Type 0) (calls : P → List Call) (mode : SayM
     directory_mid : mid.directory ≡ old.directory
     directory_mid = (settles.settling mode).directory
 
-    module _ (o : Origin) (entries : List Entry) (events : List Event) (kept : Gathers observed mode o entries events (shown calls old)) where
+    module _ (o : Origin) (entries : List Entry) (events : List Event) (kept : Gathers station.observed mode o entries events (shown station.calls old)) where
       abbrev h : List Entry
       h = entries ++ all_done events
 
-      kept_mid : Keeps observed mode o h (shown calls mid)
+      kept_mid : Keeps station.observed mode o h (shown station.calls mid)
       kept_mid = (settles.settling mode).settles o entries events kept
 
       was_full : full o.directory (state_at o h) (used_at o h) heard ≡ Some (Full used_then bytes limit_then)
@@ -109,13 +109,13 @@ module _ {P : Type 0} (observed : Type 0) (calls : P → List Call) (mode : SayM
       accepted = full_accepted o.directory (state_at o h) c kind message (used_at o h) (Full used_then bytes limit_then) was_full
 
       -- memory was wanted for the size of a compacted journal, or for the compaction
-      memory_keeps : (e : Engine P) → e ≡ mid → Keeps observed mode o (h ++ Idle heard NoMemory ∷ []) (shown calls e)
+      memory_keeps : (e : Engine P) → e ≡ mid → Keeps station.observed mode o (h ++ Idle heard NoMemory ∷ []) (shown station.calls e)
       memory_keeps e is =
-          subst (λ (x : Engine P). Keeps observed mode o (h ++ Idle heard NoMemory ∷ []) (shown calls x)) (sym is)
-          (idle mode o h heard observed NoMemory (shown calls mid) accepted kept_mid)
+          subst (λ (x : Engine P). Keeps station.observed mode o (h ++ Idle heard NoMemory ∷ []) (shown station.calls x)) (sym is)
+          (idle mode o h heard station.observed NoMemory (shown station.calls mid) accepted kept_mid)
 
     -- there was no memory
-    pub gathers_nothing : (e : Engine P) → e ≡ mid → IsGatheredWithRoom observed calls mode heard (Err NoMemory) old e
+    pub gathers_nothing : (e : Engine P) → e ≡ mid → IsGatheredWithRoom station mode heard (Err NoMemory) old e
     gathers_nothing e is = record {
       directory = ap (λ (x : Engine P). x.directory) is ∙ directory_mid;
       adds = λ o entries events kept. inl (record { leaves = memory_keeps o entries events kept e is; had_room = λ ok. absurd (cc ok) });
@@ -127,13 +127,13 @@ module _ {P : Type 0} (observed : Type 0) (calls : P → List Call) (mode : SayM
     }
 
     module _ (has : Bool) (spares : (s : State) → Holds mid.directory mid.core s → TellsSpare has mid.directory s bytes) where
-      spare_at : (o : Origin) (entries : List Entry) (events : List Event) → Gathers observed mode o entries events (shown calls old) → TellsSpare has o.directory (state_at o (entries ++ all_done events)) bytes
+      spare_at : (o : Origin) (entries : List Entry) (events : List Event) → Gathers station.observed mode o entries events (shown station.calls old) → TellsSpare has o.directory (state_at o (entries ++ all_done events)) bytes
       spare_at o entries events kept =
           let T : Directory → Type 0 = λ d. TellsSpare has d (state_at o (entries ++ all_done events)) bytes in
           subst T (kept_mid o entries events kept).directory (spares (state_at o (entries ++ all_done events)) (holds_mid o entries events kept))
 
       -- a compacted journal would be full, too
-      pub gathers_full : has ≡ false → IsGatheredWithRoom observed calls mode heard first old mid
+      pub gathers_full : has ≡ false → IsGatheredWithRoom station mode heard first old mid
       gathers_full is = record {
         directory = called.directory;
         adds = λ o entries events kept. inl (record {
@@ -152,15 +152,15 @@ module _ {P : Type 0} (observed : Type 0) (calls : P → List Call) (mode : SayM
       }
 
       module _ (roomy : has ≡ true) where
-        spare_there : (o : Origin) (entries : List Entry) (events : List Event) → Gathers observed mode o entries events (shown calls old) → TellsSpare true o.directory (state_at o (entries ++ all_done events)) bytes
+        spare_there : (o : Origin) (entries : List Entry) (events : List Event) → Gathers station.observed mode o entries events (shown station.calls old) → TellsSpare true o.directory (state_at o (entries ++ all_done events)) bytes
         spare_there o entries events kept =
             let T : Bool → Type 0 = λ b. TellsSpare b o.directory (state_at o (entries ++ all_done events)) bytes in
             subst T roomy (spare_at o entries events kept)
 
         -- the compaction failed
-        pub gathers_left : (fault : SwitchFault) (last : Engine P) → IsCompaction observed calls (Err fault) mid last
+        pub gathers_left : (fault : SwitchFault) (last : Engine P) → IsCompaction station (Err fault) mid last
             → ((s : State) → mid.stopped ≡ None → Holds mid.directory mid.core s → GivesRoom (Err fault) mid.directory s)
-            → IsCompactFault fault → (IsIdleFault (Err fault) → last ≡ mid) → IsGatheredWithRoom observed calls mode heard (Err fault) old last
+            → IsCompactFault fault → (IsIdleFault (Err fault) → last ≡ mid) → IsGatheredWithRoom station mode heard (Err fault) old last
         gathers_left NoMemory last comp room may same = gathers_nothing last (same tt)
         gathers_left SayFault last comp room may same = absurd may
         gathers_left Spent last comp room may same = absurd may
@@ -177,7 +177,7 @@ module _ {P : Type 0} (observed : Type 0) (calls : P → List Call) (mode : SayM
           caused = λ o entries events kept. absurd (never o entries events kept);
         }
           where
-            never : (o : Origin) (entries : List Entry) (events : List Event) → Gathers observed mode o entries events (shown calls old) → ⊥
+            never : (o : Origin) (entries : List Entry) (events : List Event) → Gathers station.observed mode o entries events (shown station.calls old) → ⊥
             never o entries events kept =
                 let l : List Entry = entries ++ all_done events in
                 let F : Directory → Type 0 = λ d. IsFullCompacted d (state_at o l) (Full at more limit) in
@@ -191,7 +191,7 @@ module _ {P : Type 0} (observed : Type 0) (calls : P → List Call) (mode : SayM
               let at = kept_mid o entries events kept in
               inr (inr (record {
                 fault = refl;
-                keeps = doubt_left observed mode o l heard (shown calls mid) (shown calls last) at (comp.failed refl mode o l at) (recorded (outcome o.directory (state_at o l) heard) (accepted o entries events kept));
+                keeps = doubt_left station.observed mode o l heard (shown station.calls mid) (shown station.calls last) at (comp.failed refl mode o l at) (recorded (outcome o.directory (state_at o l) heard) (accepted o entries events kept));
               }));
           outcome = λ o entries events kept answer a. absurd (cc a);
           caused = λ o entries events kept fault f.
@@ -201,8 +201,8 @@ module _ {P : Type 0} (observed : Type 0) (calls : P → List Call) (mode : SayM
         }
 
         -- it was done, and the message heard
-        pub gathers_made : (last : Engine P) (result : Result Outcome SwitchFault) (new : Engine P) → IsCompaction observed calls (Ok tt) mid last
-            → IsAnswered meanings heard result last new → IsGatheredWithRoom observed calls mode heard result old new
+        pub gathers_made : (last : Engine P) (result : Result Outcome SwitchFault) (new : Engine P) → IsCompaction station (Ok tt) mid last
+            → IsAnswered meanings heard result last new → IsGatheredWithRoom station mode heard result old new
         gathers_made last result new comp then = record {
           directory = then.directory ∙ comp.directory ∙ directory_mid;
           adds = λ o entries events kept.
@@ -224,11 +224,11 @@ module _ {P : Type 0} (observed : Type 0) (calls : P → List Call) (mode : SayM
               (λ used need limit is. never o entries events kept fault e used need limit is) (cause_last o entries events kept fault e);
         }
           where
-            kept_last : (o : Origin) (entries : List Entry) (events : List Event) → Gathers observed mode o entries events (shown calls old)
-                → Keeps observed mode (compacted_after o (entries ++ all_done events)) (entries ++ all_done events) (shown calls last)
+            kept_last : (o : Origin) (entries : List Entry) (events : List Event) → Gathers station.observed mode o entries events (shown station.calls old)
+                → Keeps station.observed mode (compacted_after o (entries ++ all_done events)) (entries ++ all_done events) (shown station.calls last)
             kept_last o entries events kept = comp.done refl mode o (entries ++ all_done events) (kept_mid o entries events kept)
 
-            cause_last : (o : Origin) (entries : List Entry) (events : List Event) → Gathers observed mode o entries events (shown calls old) → (fault : SwitchFault) → result ≡ Err fault
+            cause_last : (o : Origin) (entries : List Entry) (events : List Event) → Gathers station.observed mode o entries events (shown station.calls old) → (fault : SwitchFault) → result ≡ Err fault
                 → let l : List Entry = entries ++ all_done events in
                 IsAnswerCause (is_full_at (compacted_after o l) l (used_at (compacted_after o l) l)) l (outcome o.directory (state_at o l) heard) fault
             cause_last o entries events kept fault e =
@@ -238,7 +238,7 @@ module _ {P : Type 0} (observed : Type 0) (calls : P → List Call) (mode : SayM
                 let C : List Entry → Type 0 = λ x. IsAnswerCause (is_full_at p x (used_at p x)) x (outcome o.directory (state_at o x) heard) fault in
                 subst C (append-nil l) (cause_in p (l ++ []) (is_full_at p (l ++ []) (used_at p (l ++ []))) last fault last_kept.directory (then.caused p l [] last_kept fault e))
 
-            never : (o : Origin) (entries : List Entry) (events : List Event) → Gathers observed mode o entries events (shown calls old) → (fault : SwitchFault) → result ≡ Err fault → (used need limit : ℕ) → fault ≡ Full used need limit → ⊥
+            never : (o : Origin) (entries : List Entry) (events : List Event) → Gathers station.observed mode o entries events (shown station.calls old) → (fault : SwitchFault) → result ≡ Err fault → (used need limit : ℕ) → fault ≡ Full used need limit → ⊥
             never o entries events kept fault e used need limit is =
                 let l : List Entry = entries ++ all_done events in
                 let p : Origin = compacted_after o l in

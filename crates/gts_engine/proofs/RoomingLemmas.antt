@@ -2,7 +2,7 @@
 use Rattle.std.proofs.Common.{◌≡◌, ◌⊎◌, inl, inr, ℕ, ◌+◌, ◌*◌, ◌/◌, ◌-◌, ◌^◌, ◌<◌, ◌≤◌, nat_lt, nat_le, Bool, true, false, cond, List, [], ◌∷◌, ◌++◌, length, Option, Some, None, Result, Ok, Err, refl, sym, ap, subst, ◌∙◌, arith, mul-le-mul_left, IsOk, IsSome, IfSome, is_ok, min}
 use Rattle.std.proofs.lemmas.Bool.{ltb-true, ltb-false, le-ltb, leb-true, leb-false, cases_eq}
 use Rattle.std.proofs.lemmas.List.{append-nil}
-use Rattle.gts_engine.specs.Cited.{Accepted, AnswersFull, Asked, Call, Device, Directory, Disk, DiskFault, Doubt, Draw, Duplicate, Engine, Entry, Event, Full, GivesRoom, HasFailed, HasRecord, HasSaid, Heard, Holds, Idle, IsAccepted, IsCalled, IsCause, IsCompactFault, IsCompaction, IsFullCompacted, IsFullEither, IsHeardWithRoom, IsIdleAnswer, IsIdleFault, IsLeft, IsReading, IsUnchanged, Keeps, Kind, LeavesFront, LineLost, NoMemory, Nothing, Origin, Outcome, Outside, Refused, Resend, Say, SayFault, SayMode, Shown, Spent, State, Stopped, SwitchFault, TellsSpare, after_all, begun, body_of, bytes_wanted, checkpoint_text, compacted_after, compacted_size, draw_size, due, entry_of, full, full_compacted, full_with_spare, meanings_of, most_accepted, need, outcome, restarted, room, said_by, seal_size, shown, spare, state_at, used_at, written}
+use Rattle.gts_engine.specs.Cited.{Accepted, AnswersFull, Asked, Device, Directory, Disk, DiskFault, Doubt, Draw, Duplicate, Engine, Entry, Event, Full, GivesRoom, HasFailed, HasRecord, HasSaid, Heard, Holds, Idle, IsAccepted, IsCalled, IsCause, IsCompactFault, IsCompaction, IsFullCompacted, IsFullEither, IsHeardWithRoom, IsIdleAnswer, IsIdleFault, IsLeft, IsReading, IsUnchanged, Keeps, Kind, LeavesFront, LineLost, NoMemory, Nothing, Origin, Outcome, Outside, Refused, Resend, Say, SayFault, SayMode, Shown, Spent, State, StationMeanings, Stopped, SwitchFault, TellsSpare, after_all, begun, body_of, bytes_wanted, checkpoint_text, compacted_after, compacted_size, draw_size, due, entry_of, full, full_compacted, full_with_spare, meanings_of, most_accepted, need, outcome, restarted, room, said_by, seal_size, shown, spare, state_at, used_at, written}
 use Rattle.gts_traits.proofs.LawLemmas.{weaker}
 use Rattle.gts_engine.proofs.EntryLemmas.{told_more, nothing_said, anchors_more, caused_more, stops_now, only_itself, read_not}
 use Rattle.gts_engine.proofs.LeavingLemmas.{longer}
@@ -191,7 +191,7 @@ pub went_on : (E : Type 0) (result : Result Outcome SwitchFault) (before : Optio
 went_on E result None stopped other = refl
 went_on E result (Some by) stopped other = absurd (other by stopped.0)
 
-module _ {P : Type 0} (observed : Type 0) (calls : P → List Call) (mode : SayMode) (c : ℕ) (kind : Kind) (message : List ℕ) where
+module _ {P : Type 0} (station : StationMeanings P) (mode : SayMode) (c : ℕ) (kind : Kind) (message : List ℕ) where
   abbrev heard : Event
   heard = Heard c kind message
 
@@ -214,16 +214,16 @@ module _ {P : Type 0} (observed : Type 0) (calls : P → List Call) (mode : SayM
     is_full_at at fault = full o.directory there at heard ≡ Some fault
 
     -- in the words of the origin
-    outcome_in : (e : Engine P) → Keeps observed mode o h (shown calls e) → outcome e.directory (after_all e.directory (begun o.start) h) heard ≡ outcome o.directory there heard
+    outcome_in : (e : Engine P) → Keeps station.observed mode o h (shown station.calls e) → outcome e.directory (after_all e.directory (begun o.start) h) heard ≡ outcome o.directory there heard
     outcome_in e kept = ap (λ (d : Directory). outcome d (after_all d (begun o.start) h) heard) kept.directory
 
-    cause_in : (F : SwitchFault → Type 0) (e : Engine P) (fault : SwitchFault) → Keeps observed mode o h (shown calls e)
+    cause_in : (F : SwitchFault → Type 0) (e : Engine P) (fault : SwitchFault) → Keeps station.observed mode o h (shown station.calls e)
         → IsCause F h (outcome e.directory (after_all e.directory (begun o.start) h) heard) fault → IsCause F h (outcome o.directory there heard) fault
     cause_in F e fault kept cause = subst (λ (x : Outcome). IsCause F h x fault) (outcome_in e kept) cause
 
   -- what was answered stands, but for want of room
-  pub plain : (result : Result Outcome SwitchFault) (old new : Engine P) → IsCalled (meanings_of observed calls mode) heard result old new → AnswersFull old heard result
-      → IfSome old.stopped (λ by. (result ≡ Err (Stopped by)) × (new ≡ old)) → bytes_wanted result ≡ None → IsHeardWithRoom observed calls mode heard result old new
+  pub plain : (result : Result Outcome SwitchFault) (old new : Engine P) → IsCalled (meanings_of station mode) heard result old new → AnswersFull old heard result
+      → IfSome old.stopped (λ by. (result ≡ Err (Stopped by)) × (new ≡ old)) → bytes_wanted result ≡ None → IsHeardWithRoom station mode heard result old new
   plain result old new called full_answer stopped other = record {
     directory = called.directory;
     adds = λ o h kept. inl (record { keeps = called.adds o h kept; had_room = λ ok. roomy o h kept ok (full o.directory (state_at o h) (used_at o h) heard) refl });
@@ -237,7 +237,7 @@ module _ {P : Type 0} (observed : Type 0) (calls : P → List Call) (mode : SayM
       not_stopped : IsOk result → old.stopped ≡ None
       not_stopped ok = went_on (new ≡ old) result old.stopped stopped (λ by e. let x : false ≡ true = sym (ap is_ok e) ∙ ok in absurd (cc x))
 
-      roomy : (o : Origin) (h : List Entry) → Keeps observed mode o h (shown calls old) → IsOk result → (f : Option SwitchFault) → full o.directory (state_at o h) (used_at o h) heard ≡ f → full o.directory (state_at o h) (used_at o h) heard ≡ None
+      roomy : (o : Origin) (h : List Entry) → Keeps station.observed mode o h (shown station.calls old) → IsOk result → (f : Option SwitchFault) → full o.directory (state_at o h) (used_at o h) heard ≡ f → full o.directory (state_at o h) (used_at o h) heard ≡ None
       roomy o h kept ok None is = is
       roomy o h kept ok (Some fault) is =
           let going = not_stopped ok in
@@ -250,7 +250,7 @@ module _ {P : Type 0} (observed : Type 0) (calls : P → List Call) (mode : SayM
 
   -- ---- the journal was full
 
-  module _ (first : Result Outcome SwitchFault) (bytes : ℕ) (wanted : bytes_wanted first ≡ Some bytes) (old mid : Engine P) (called : IsCalled (meanings_of observed calls mode) heard first old mid)
+  module _ (first : Result Outcome SwitchFault) (bytes : ℕ) (wanted : bytes_wanted first ≡ Some bytes) (old mid : Engine P) (called : IsCalled (meanings_of station mode) heard first old mid)
       (stopped : IfSome old.stopped (λ by. (first ≡ Err (Stopped by)) × (mid ≡ old))) (unchanged : IsUnchanged old mid) where
     abbrev used_then : ℕ
     used_then = (full_is first bytes wanted).0
@@ -267,10 +267,10 @@ module _ {P : Type 0} (observed : Type 0) (calls : P → List Call) (mode : SayM
     pub going_mid : mid.stopped ≡ None
     going_mid = unchanged.stopped ∙ going
 
-    module _ (o : Origin) (h : List Entry) (kept : Keeps observed mode o h (shown calls old)) where
-      kept_mid : Keeps observed mode o h (shown calls mid)
+    module _ (o : Origin) (h : List Entry) (kept : Keeps station.observed mode o h (shown station.calls old)) where
+      kept_mid : Keeps station.observed mode o h (shown station.calls mid)
       kept_mid =
-          same observed mode o h [] (shown calls old) (shown calls mid) unchanged.directory unchanged.used unchanged.stopped unchanged.gathered unchanged.held unchanged.drawn (ap calls unchanged.station)
+          same station.observed mode o h [] (shown station.calls old) (shown station.calls mid) unchanged.directory unchanged.used unchanged.stopped unchanged.gathered unchanged.held unchanged.drawn (ap station.calls unchanged.station)
           unchanged.core kept
 
       was_full : full o.directory (state_at o h) (used_at o h) heard ≡ Some (Full used_then bytes limit_then)
@@ -285,13 +285,13 @@ module _ {P : Type 0} (observed : Type 0) (calls : P → List Call) (mode : SayM
       accepted = full_accepted o.directory (state_at o h) c kind message (used_at o h) (Full used_then bytes limit_then) was_full
 
       -- memory was wanted for the size of a compacted journal, or for the compaction
-      memory_keeps : (e : Engine P) → e ≡ mid → Keeps observed mode o (h ++ entry_of heard (let r : Result Outcome SwitchFault = Err NoMemory in r)) (shown calls e)
+      memory_keeps : (e : Engine P) → e ≡ mid → Keeps station.observed mode o (h ++ entry_of heard (let r : Result Outcome SwitchFault = Err NoMemory in r)) (shown station.calls e)
       memory_keeps e is =
-          subst (λ (x : Engine P). Keeps observed mode o (h ++ Idle heard NoMemory ∷ []) (shown calls x)) (sym is)
-          (idle mode o h heard observed NoMemory (shown calls mid) accepted kept_mid)
+          subst (λ (x : Engine P). Keeps station.observed mode o (h ++ Idle heard NoMemory ∷ []) (shown station.calls x)) (sym is)
+          (idle mode o h heard station.observed NoMemory (shown station.calls mid) accepted kept_mid)
 
     -- there was no memory
-    pub without_memory : (e : Engine P) → e ≡ mid → IsHeardWithRoom observed calls mode heard (Err NoMemory) old e
+    pub without_memory : (e : Engine P) → e ≡ mid → IsHeardWithRoom station mode heard (Err NoMemory) old e
     without_memory e is = record {
       directory = ap (λ (x : Engine P). x.directory) is ∙ unchanged.directory;
       adds = λ o h kept. inl (record { keeps = memory_keeps o h kept e is; had_room = λ ok. absurd (cc ok) });
@@ -302,13 +302,13 @@ module _ {P : Type 0} (observed : Type 0) (calls : P → List Call) (mode : SayM
     }
 
     module _ (has : Bool) (spares : (s : State) → Holds mid.directory mid.core s → TellsSpare has mid.directory s bytes) where
-      spare_at : (o : Origin) (h : List Entry) → Keeps observed mode o h (shown calls old) → TellsSpare has o.directory (state_at o h) bytes
+      spare_at : (o : Origin) (h : List Entry) → Keeps station.observed mode o h (shown station.calls old) → TellsSpare has o.directory (state_at o h) bytes
       spare_at o h kept =
           let T : Directory → Type 0 = λ d. TellsSpare has d (state_at o h) bytes in
           subst T (kept_mid o h kept).directory (spares (state_at o h) (holds_mid o h kept))
 
       -- a compacted journal would be full, too
-      pub full_either : has ≡ false → IsHeardWithRoom observed calls mode heard first old mid
+      pub full_either : has ≡ false → IsHeardWithRoom station mode heard first old mid
       full_either is = record {
         directory = called.directory;
         adds = λ o h kept. inl (record {
@@ -325,13 +325,13 @@ module _ {P : Type 0} (observed : Type 0) (calls : P → List Call) (mode : SayM
       }
 
       module _ (roomy : has ≡ true) where
-        spare_there : (o : Origin) (h : List Entry) → Keeps observed mode o h (shown calls old) → TellsSpare true o.directory (state_at o h) bytes
+        spare_there : (o : Origin) (h : List Entry) → Keeps station.observed mode o h (shown station.calls old) → TellsSpare true o.directory (state_at o h) bytes
         spare_there o h kept = let T : Bool → Type 0 = λ b. TellsSpare b o.directory (state_at o h) bytes in subst T roomy (spare_at o h kept)
 
         -- the compaction failed
-        pub left_off : (fault : SwitchFault) (last : Engine P) → IsCompaction observed calls (Err fault) mid last
+        pub left_off : (fault : SwitchFault) (last : Engine P) → IsCompaction station (Err fault) mid last
             → ((s : State) → mid.stopped ≡ None → Holds mid.directory mid.core s → GivesRoom (Err fault) mid.directory s)
-            → IsCompactFault fault → (IsIdleFault (Err fault) → last ≡ mid) → IsHeardWithRoom observed calls mode heard (Err fault) old last
+            → IsCompactFault fault → (IsIdleFault (Err fault) → last ≡ mid) → IsHeardWithRoom station mode heard (Err fault) old last
         left_off NoMemory last comp room may same = without_memory last (same tt)
         left_off SayFault last comp room may same = absurd may
         left_off Spent last comp room may same = absurd may
@@ -348,7 +348,7 @@ module _ {P : Type 0} (observed : Type 0) (calls : P → List Call) (mode : SayM
           caused = λ o h kept. absurd (never o h kept);
         }
           where
-            never : (o : Origin) (h : List Entry) → Keeps observed mode o h (shown calls old) → ⊥
+            never : (o : Origin) (h : List Entry) → Keeps station.observed mode o h (shown station.calls old) → ⊥
             never o h kept =
                 let F : Directory → Type 0 = λ d. IsFullCompacted d (state_at o h) (Full at more limit) in
                 let over = subst F (kept_mid o h kept).directory (room (state_at o h) going_mid (holds_mid o h kept)) in
@@ -357,7 +357,7 @@ module _ {P : Type 0} (observed : Type 0) (calls : P → List Call) (mode : SayM
         left_off DiskFault last comp room may same = record {
           directory = comp.directory ∙ unchanged.directory;
           adds = λ o h kept. inl (record {
-            keeps = doubt_left observed mode o h heard (shown calls mid) (shown calls last) (kept_mid o h kept) (comp.failed refl mode o h (kept_mid o h kept)) (recorded (outcome o.directory (state_at o h) heard) (accepted o h kept));
+            keeps = doubt_left station.observed mode o h heard (shown station.calls mid) (shown station.calls last) (kept_mid o h kept) (comp.failed refl mode o h (kept_mid o h kept)) (recorded (outcome o.directory (state_at o h) heard) (accepted o h kept));
             had_room = λ ok. absurd (cc ok);
           });
           outcome = λ o h kept answer a. absurd (cc a);
@@ -367,8 +367,8 @@ module _ {P : Type 0} (observed : Type 0) (calls : P → List Call) (mode : SayM
         }
 
         -- it was done, and the message heard
-        pub made : (last : Engine P) (result : Result Outcome SwitchFault) (new : Engine P) → IsCompaction observed calls (Ok tt) mid last
-            → IsCalled (meanings_of observed calls mode) heard result last new → IsHeardWithRoom observed calls mode heard result old new
+        pub made : (last : Engine P) (result : Result Outcome SwitchFault) (new : Engine P) → IsCompaction station (Ok tt) mid last
+            → IsCalled (meanings_of station mode) heard result last new → IsHeardWithRoom station mode heard result old new
         made last result new comp then = record {
           directory = then.directory ∙ comp.directory ∙ unchanged.directory;
           adds = λ o h kept. inr (record {
@@ -382,10 +382,10 @@ module _ {P : Type 0} (observed : Type 0) (calls : P → List Call) (mode : SayM
               (cause_in (compacted_after o h) h (is_full_at o h (used_at (compacted_after o h) h)) last fault (kept_last o h kept) (then.caused (compacted_after o h) h (kept_last o h kept) fault e));
         }
           where
-            kept_last : (o : Origin) (h : List Entry) → Keeps observed mode o h (shown calls old) → Keeps observed mode (compacted_after o h) h (shown calls last)
+            kept_last : (o : Origin) (h : List Entry) → Keeps station.observed mode o h (shown station.calls old) → Keeps station.observed mode (compacted_after o h) h (shown station.calls last)
             kept_last o h kept = comp.done refl mode o h (kept_mid o h kept)
 
-            never : (o : Origin) (h : List Entry) → Keeps observed mode o h (shown calls old) → (fault : SwitchFault) → result ≡ Err fault → (used need limit : ℕ) → fault ≡ Full used need limit → ⊥
+            never : (o : Origin) (h : List Entry) → Keeps station.observed mode o h (shown station.calls old) → (fault : SwitchFault) → result ≡ Err fault → (used need limit : ℕ) → fault ≡ Full used need limit → ⊥
             never o h kept fault e used need limit is =
                 let cause : full o.directory (state_at o h) (used_at (compacted_after o h) h) heard ≡ Some (Full used need limit) =
                 then.caused (compacted_after o h) h (kept_last o h kept) (Full used need limit) (e ∙ ap {A = SwitchFault} (λ f. Err f) is) in

@@ -1,7 +1,7 @@
 -- Settling, over the parts of an engine.
 use Rattle.std.proofs.Common.{◌≡◌, ◌<◌, ◌≤◌, ◌+◌, true, false, nat_lt, ℕ, zero, suc, Bool, List, [], ◌∷◌, ◌++◌, length, Some, None, Result, Ok, Err, OnOk, IfErr, refl, sym, ap, subst, ◌∙◌, arith, replicate, ◌==◌}
 use Rattle.std.proofs.lemmas.Bool.{eqb-true, eqb-false, ltb-false, lt-ltb}
-use Rattle.gts_engine.specs.Cited.{AfterSettling, AreNext, Brings, BringsAndSays, Call, Core, Device, Directory, Disk, DiskFault, Engine, EngineParts, Entry, Event, Full, Gathered, Gathers, HasCallCause, HasFewDraws, HasRoom, HasSettled, InHand, IsBlock, IsDeviceFault, IsGathering, IsSettling, IsSound, Keeps, LONGEST_FRAME, MOST_CIRCUITS, MOST_GATHERED, NoMemory, OnlyBrought, OnlySettled, Origin, Record, Say, SayFault, SayMode, Sayings, SaysBy, Spent, StandsFor, State, Stopped, SwitchFault, after_records, all_done, beyond_block, draw_bytes, engine_of, held_pieces, meanings_of, no_records, no_sayings, none_drawn, shown, shows, slice_index_or, stopped_after, written}
+use Rattle.gts_engine.specs.Cited.{AfterSettling, AreNext, Brings, BringsAndSays, Call, Core, Device, Directory, Disk, DiskFault, Engine, EngineParts, Entry, Event, Full, Gathered, Gathers, HasFewDraws, HasRoom, HasSettled, HasStationCause, InHand, IsBlock, IsDeviceFault, IsGathering, IsSettling, IsSound, Keeps, LONGEST_FRAME, MOST_CIRCUITS, MOST_GATHERED, NoMemory, OnlyBrought, OnlySettled, Origin, Record, Say, SayFault, SayMode, Sayings, SaysBy, Spent, StandsFor, State, StationMeanings, Stopped, SwitchFault, after_records, all_done, beyond_block, draw_bytes, engine_of, held_pieces, meanings_of, no_records, no_sayings, none_drawn, shown, shows, slice_index_or, stopped_after, written}
 use Rattle.gts_journal.specs.Batch.{Gathers as GathersRecords}
 use Rattle.std.proofs.lemmas.List.{append-nil}
 use Rattle.gts_journal.proofs.LawLemmas.{gathered_block, next_none}
@@ -19,23 +19,23 @@ block_of observed d calls core j b g some = block_by j.seal g.records b g.next.g
 
 -- ---- an engine that has gathered nothing, or has stopped
 
-module _ {P : Type 0} (observed : Type 0) (calls : P → List Call) where
+module _ {P : Type 0} (station : StationMeanings P) where
   -- nothing is to be settled
-  pub rests_settled : (mode : SayMode) (o : Origin) (entries : List Entry) (events : List Event) (e : Engine P) → Gathers observed mode o entries events (shown calls e) → events ≡ [] → AfterSettling (meanings_of observed calls mode) o entries events (Ok tt) e
+  pub rests_settled : (mode : SayMode) (o : Origin) (entries : List Entry) (events : List Event) (e : Engine P) → Gathers station.observed mode o entries events (shown station.calls e) → events ≡ [] → AfterSettling (meanings_of station mode) o entries events (Ok tt) e
   rests_settled mode o entries events e kept none =
-      let K : List Event → Type 0 = λ es. Gathers observed mode o entries es (shown calls e) in
-      let A : List Event → Type 0 = λ es. Keeps observed mode o (entries ++ all_done es) (shown calls e) in
-      subst A (sym none) (subst (λ (l : List Entry). Keeps observed mode o l (shown calls e)) (sym (append-nil entries)) (subst K none kept))
+      let K : List Event → Type 0 = λ es. Gathers station.observed mode o entries es (shown station.calls e) in
+      let A : List Event → Type 0 = λ es. Keeps station.observed mode o (entries ++ all_done es) (shown station.calls e) in
+      subst A (sym none) (subst (λ (l : List Entry). Keeps station.observed mode o l (shown station.calls e)) (sym (append-nil entries)) (subst K none kept))
 
-  none_stopped : (mode : SayMode) (o : Origin) (entries : List Entry) (events : List Event) (e : Engine P) (by : Device) → e.stopped ≡ Some by → Gathers observed mode o entries events (shown calls e) → events ≡ []
+  none_stopped : (mode : SayMode) (o : Origin) (entries : List Entry) (events : List Event) (e : Engine P) (by : Device) → e.stopped ≡ Some by → Gathers station.observed mode o entries events (shown station.calls e) → events ≡ []
   none_stopped mode o entries [] e by is kept = refl
   none_stopped mode o entries (x ∷ events) e by is kept = absurd (goes_on e.stopped by is kept.gathered.1)
 
-  none_here : (mode : SayMode) (o : Origin) (entries : List Entry) (events : List Event) (e : Engine P) → e.gathered ≡ false → Gathers observed mode o entries events (shown calls e) → events ≡ []
+  none_here : (mode : SayMode) (o : Origin) (entries : List Entry) (events : List Event) (e : Engine P) → e.gathered ≡ false → Gathers station.observed mode o entries events (shown station.calls e) → events ≡ []
   none_here mode o entries [] e none kept = refl
   none_here mode o entries (x ∷ events) e none kept = absurd (let yes : e.gathered ≡ true = kept.gathered.0 in cc (yes, none))
 
-  pub stopped_settles : (mode : SayMode) (by : Device) (e : Engine P) → e.stopped ≡ Some by → IsSettling (meanings_of observed calls mode) (Ok tt) e e
+  pub stopped_settles : (mode : SayMode) (by : Device) (e : Engine P) → e.stopped ≡ Some by → IsSettling (meanings_of station mode) (Ok tt) e e
   stopped_settles mode by e is = record {
     directory = refl;
     settles = λ o entries events kept. rests_settled mode o entries events e kept (none_stopped mode o entries events e by is kept);
@@ -43,20 +43,20 @@ module _ {P : Type 0} (observed : Type 0) (calls : P → List Call) where
   }
 
   -- what was settled of the parts, in the words of a switch
-  pub parts_settle : (disk say : P → ℕ) (mode : SayMode) (result : Result (Unit {0}) SwitchFault) (old new : EngineParts P) → HasSettled observed calls disk say result old new → IsSettling (meanings_of observed calls mode) result (engine_of old) (engine_of new)
-  parts_settle disk say mode result old new s = record {
+  pub parts_settle : (mode : SayMode) (result : Result (Unit {0}) SwitchFault) (old new : EngineParts P) → HasSettled station result old new → IsSettling (meanings_of station mode) result (engine_of old) (engine_of new)
+  parts_settle mode result old new s = record {
     directory = ap (λ (p : EngineParts P). p.directory) s.rest;
     settles = λ o entries events kept. s.settles mode o entries events kept;
     rests = λ o h kept.
         let n = s.nothing kept.gathered in
-        let K : EngineParts P → Type 0 = λ p. Keeps observed mode o h (shows calls p) in
+        let K : EngineParts P → Type 0 = λ p. Keeps station.observed mode o h (shows station.calls p) in
         (n.0, subst K (sym n.1) kept);
   }
 
   -- where nothing is gathered, nothing is done
-  pub nothing_settled : (disk say : P → ℕ) (p : EngineParts P) → IsSound observed calls p → (engine_of p).gathered ≡ false → HasCallCause (let r : Result (Unit {0}) SwitchFault = Ok tt in r) (disk p.station) (disk p.station) (say p.station) (say p.station)
-      → HasSettled observed calls disk say (Ok tt) p p
-  nothing_settled disk say p sound none cause = record {
+  pub nothing_settled : (p : EngineParts P) → IsSound station p → (engine_of p).gathered ≡ false → HasStationCause station (let r : Result (Unit {0}) SwitchFault = Ok tt in r) p.station p.station
+      → HasSettled station (Ok tt) p p
+  nothing_settled p sound none cause = record {
     settles = λ mode o entries events kept. rests_settled mode o entries events (engine_of p) kept (none_here mode o entries events (engine_of p) none kept);
     sound = sound;
     stops = refl;
@@ -72,11 +72,11 @@ module _ {P : Type 0} (observed : Type 0) (calls : P → List Call) where
 
 -- ---- an engine that has gathered something
 
-module _ {P : Type 0} (observed : Type 0) (calls : P → List Call) (disk say : P → ℕ) (old mid : EngineParts P) (going : old.stopped ≡ None) (sound : IsSound observed calls old) (some : (engine_of old).gathered ≡ true)
-    (result : Result (Unit {0}) SwitchFault) (brings : observed → BringsAndSays result (calls old.station) (calls mid.station) old mid.journal) (says : SaysBy observed (held_pieces old.held) result (calls old.station) (calls mid.station))
+module _ {P : Type 0} (station : StationMeanings P) (old mid : EngineParts P) (going : old.stopped ≡ None) (sound : IsSound station old) (some : (engine_of old).gathered ≡ true)
+    (result : Result (Unit {0}) SwitchFault) (brings : station.observed → BringsAndSays result (station.calls old.station) (station.calls mid.station) old mid.journal) (says : SaysBy station.observed (held_pieces old.held) result (station.calls old.station) (station.calls mid.station))
     (place : OnOk result (mid.journal ≡ beyond_block old.journal old.batch.text old.batch.seal)) (rest : OnlyBrought old mid) (stops : mid.stopped ≡ stopped_after old.stopped result) (kind : IfErr result IsDeviceFault)
-    (cause : HasCallCause result (disk old.station) (disk mid.station) (say old.station) (say mid.station)) where
-  g : IsGathering observed old.directory (calls old.station) old.core old.journal old.batch
+    (cause : HasStationCause station result old.station mid.station) where
+  g : IsGathering station.observed old.directory (station.calls old.station) old.core old.journal old.batch
   g = sound.goes going
 
   -- the parts, with nothing gathered any more
@@ -95,24 +95,24 @@ module _ {P : Type 0} (observed : Type 0) (calls : P → List Call) (disk say : 
   used_by (Err fault) at = tt
 
   -- brought under a directory that is the same
-  brings_at : (d : Directory) → old.directory ≡ d → (k : IsGathering observed d (calls old.station) old.core old.journal old.batch) → observed
-      → Brings d k.settled (after_records d k.settled k.records) (held_pieces old.held) result (calls old.station) (calls mid.station) mid.journal
+  brings_at : (d : Directory) → old.directory ≡ d → (k : IsGathering station.observed d (station.calls old.station) old.core old.journal old.batch) → station.observed
+      → Brings d k.settled (after_records d k.settled k.records) (held_pieces old.held) result (station.calls old.station) (station.calls mid.station) mid.journal
   brings_at d same k tell =
-      let B : Directory → Type 0 = λ e. (s : State) (rs : List Record) → StandsFor e s (calls old.station) old.journal → AreNext e s old.journal rs old.batch
-      → Brings e s (after_records e s rs) (held_pieces old.held) result (calls old.station) (calls mid.station) mid.journal in
+      let B : Directory → Type 0 = λ e. (s : State) (rs : List Record) → StandsFor e s (station.calls old.station) old.journal → AreNext e s old.journal rs old.batch
+      → Brings e s (after_records e s rs) (held_pieces old.held) result (station.calls old.station) (station.calls mid.station) mid.journal in
       subst B same (brings tell) k.settled k.records (k.stands tell) k.next
 
-  settles_all : (mode : SayMode) (o : Origin) (entries : List Entry) (events : List Event) → Gathers observed mode o entries events (shows calls old) → AfterSettling (meanings_of observed calls mode) o entries events result (engine_of new)
+  settles_all : (mode : SayMode) (o : Origin) (entries : List Entry) (events : List Event) → Gathers station.observed mode o entries events (shows station.calls old) → AfterSettling (meanings_of station mode) o entries events result (engine_of new)
   settles_all mode o entries [] kept = absurd (let no : (engine_of old).gathered ≡ false = kept.gathered in cc (no, some))
   settles_all mode o entries (event ∷ more) kept =
-      let D : Directory → Type 0 = λ d. IsGathering observed d (calls old.station) old.core old.journal old.batch in
-      let k : IsGathering observed o.directory (calls old.station) old.core old.journal old.batch = subst D kept.directory g in
-      settles observed calls mode o entries event more (engine_of old) old.journal old.batch kept k result (engine_of new) mid.journal directory core refl refl stops
+      let D : Directory → Type 0 = λ d. IsGathering station.observed d (station.calls old.station) old.core old.journal old.batch in
+      let k : IsGathering station.observed o.directory (station.calls old.station) old.core old.journal old.batch = subst D kept.directory g in
+      settles station mode o entries event more (engine_of old) old.journal old.batch kept k result (engine_of new) mid.journal directory core refl refl stops
       (λ tell. brings_at o.directory kept.directory k tell) says (used_by result place) kind
 
   goes_by : (r : Result (Unit {0}) SwitchFault) → mid.stopped ≡ stopped_after old.stopped r → IfErr r IsDeviceFault → OnOk r (mid.journal ≡ beyond_block old.journal old.batch.text old.batch.seal)
-      → (observed → Brings old.directory g.settled (after_records old.directory g.settled g.records) (held_pieces old.held) r (calls old.station) (calls mid.station) mid.journal)
-      → mid.stopped ≡ None → IsGathering observed old.directory (calls mid.station) old.core mid.journal (no_records mid.journal)
+      → (station.observed → Brings old.directory g.settled (after_records old.directory g.settled g.records) (held_pieces old.held) r (station.calls old.station) (station.calls mid.station) mid.journal)
+      → mid.stopped ≡ None → IsGathering station.observed old.directory (station.calls mid.station) old.core mid.journal (no_records mid.journal)
   goes_by (Ok done) stopped kind at brought none = record {
     state = g.state;
     holds = g.holds;
@@ -135,13 +135,13 @@ module _ {P : Type 0} (observed : Type 0) (calls : P → List Call) (disk say : 
   goes_by (Err Spent) stopped kind at brought none = absurd kind
   goes_by (Err NoMemory) stopped kind at brought none = absurd kind
 
-  pub all_settled : HasFewDraws old.directory none_drawn → HasSettled observed calls disk say result old new
+  pub all_settled : HasFewDraws old.directory none_drawn → HasSettled station result old new
   all_settled few = record {
     settles = settles_all;
     sound = record {
       goes = λ none.
-          let D : Directory → Type 0 = λ d. IsGathering observed d (calls mid.station) mid.core mid.journal (no_records mid.journal) in
-          let K : Core → Type 0 = λ k. IsGathering observed old.directory (calls mid.station) k mid.journal (no_records mid.journal) in
+          let D : Directory → Type 0 = λ d. IsGathering station.observed d (station.calls mid.station) mid.core mid.journal (no_records mid.journal) in
+          let K : Core → Type 0 = λ k. IsGathering station.observed old.directory (station.calls mid.station) k mid.journal (no_records mid.journal) in
           subst D (sym directory) (subst K (sym core) (goes_by result stops kind place (λ tell. brings_at old.directory refl g tell) none));
       few = subst (λ (d : Directory). HasFewDraws d none_drawn) (sym directory) few;
       rests = λ none. refl;
@@ -190,7 +190,7 @@ pub whenever : {T E : Type 0} {A : Type 0} (r : Result T E) → A → OnOk r A
 whenever (Ok x) a = a
 whenever (Err e) a = tt
 
-module _ {P : Type 0} (observed : Type 0) (calls : P → List Call) (disk say : P → ℕ) (result : Result (Unit {0}) SwitchFault) (old new : EngineParts P) (s : HasSettled observed calls disk say result old new) where
+module _ {P : Type 0} (station : StationMeanings P) (result : Result (Unit {0}) SwitchFault) (old new : EngineParts P) (s : HasSettled station result old new) where
   pub room_settled : (bytes : ℕ) → bytes < MOST_GATHERED → length new.batch.text + bytes ≤ MOST_GATHERED
   room_settled bytes few = omega (arith, few, ltb-false 1 (length new.batch.text) s.emptied)
 

@@ -1,6 +1,6 @@
 -- The journal is compacted.
 use Rattle.std.specs.Prelude.{◌≡◌, ◌≢◌, ◌-◌, ◌^◌, ℕ, min, List, length, None, Result, Ok, Err, IfErr, OnOk}
-use Rattle.gts_engine.specs.Cited.Below.{Call, Core, Directory, DiskFault, EachSince, Entry, Full, HasCallCause, Holds, NoMemory, OpensAsBefore, State, Stopped, SwitchFault, checkpoint_file, checkpoint_text, compacted_size, full_compacted, need, seen, selected}
+use Rattle.gts_engine.specs.Cited.Below.{Call, Core, Directory, DiskFault, EachSince, Entry, Full, Holds, NoMemory, OpensAsBefore, State, StationMeanings, Stopped, SwitchFault, checkpoint_file, checkpoint_text, compacted_size, full_compacted, need, seen, selected}
 use Rattle.gts_engine.specs.declared.room.CheckpointFull.{CheckpointFull}
 use Rattle.gts_engine.specs.declared.mode.SayMode.{SayMode}
 use Rattle.gts_engine.specs.declared.parts.EngineParts.{EngineParts}
@@ -9,16 +9,18 @@ use Rattle.gts_engine.specs.Origin.{Origin, compacted_after}
 use Rattle.gts_engine.specs.Keeping.{IsLeft, IsFullCompacted, Keeps}
 use Rattle.gts_engine.specs.Going.{stopped_after}
 use Rattle.gts_engine.specs.EngineParts.{IsSound}
+use Rattle.gts_engine.specs.Causes.{HasStationCause}
 
 -- The journal was to be compacted, with this answer: the engine stands for the same entries, behind which the journal was
 -- compacted; or it was left behind them.
-pub record IsCompaction {P : Type 0} (observed : Type 0) (calls : P → List Call)
+pub record IsCompaction {P : Type 0} (station : StationMeanings P)
     (result : Result (Unit {0}) SwitchFault) (old new : Engine P) : Type 0 where
   pub directory : new.directory ≡ old.directory
-  pub done : result ≡ Ok tt → (mode : SayMode) (o : Origin) (h : List Entry) → Keeps observed mode o h (shown calls old)
-      → Keeps observed mode (compacted_after o h) h (shown calls new)
-  pub failed : result ≡ Err DiskFault → (mode : SayMode) (o : Origin) (h : List Entry) → Keeps observed mode o h (shown calls old)
-      → IsLeft observed mode o h (shown calls new)
+  pub done : result ≡ Ok tt → (mode : SayMode) (o : Origin) (h : List Entry) → Keeps station.observed mode o h (shown station.calls old)
+      → Keeps station.observed mode (compacted_after o h) h (shown station.calls new)
+  pub failed : result ≡ Err DiskFault → (mode : SayMode) (o : Origin) (h : List Entry)
+      → Keeps station.observed mode o h (shown station.calls old)
+      → IsLeft station.observed mode o h (shown station.calls new)
 
 -- The other file is selected, and the one before stays as it is. The other one is the checkpoint of the need alone, and all of it
 -- is in use.
@@ -67,17 +69,17 @@ IsWriteFault NoMemory = Unit {0}
 IsWriteFault _ = ⊥
 
 -- The journal of the parts of an engine that goes on was to go on in its other file, behind a checkpoint for which there is room.
-pub record Rewrites {P : Type 0} (observed : Type 0) (calls : P → List Call) (disk say : P → ℕ)
+pub record Rewrites {P : Type 0} (station : StationMeanings P)
     (result : Result (Unit {0}) SwitchFault) (old new : EngineParts P) : Type 0 where
-  pub compaction : IsCompaction observed calls result (engine_of old) (engine_of new)
-  pub sound : IsSound observed calls new
-  pub moments : observed → StaysAt old.directory old.core (calls old.station) (calls new.station)
-  pub written : observed → OnOk result ((s : State) → Holds old.directory old.core s
-      → IsRewritten old.directory s (calls old.station) (calls new.station) (engine_of new).used)
+  pub compaction : IsCompaction station result (engine_of old) (engine_of new)
+  pub sound : IsSound station new
+  pub moments : station.observed → StaysAt old.directory old.core (station.calls old.station) (station.calls new.station)
+  pub written : station.observed → OnOk result ((s : State) → Holds old.directory old.core s
+      → IsRewritten old.directory s (station.calls old.station) (station.calls new.station) (engine_of new).used)
   pub stops : new.stopped ≡ stopped_after old.stopped result
   pub kind : IfErr result IsWriteFault
   pub unchanged : IsIdleFault result → new ≡ old
-  pub cause : HasCallCause result (disk old.station) (disk new.station) (say old.station) (say new.station)
+  pub cause : HasStationCause station result old.station new.station
 
 -- what may be answered where a journal is to be compacted
 abbrev pub IsCompactFault : SwitchFault → Type 0

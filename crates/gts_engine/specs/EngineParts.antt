@@ -1,7 +1,6 @@
 -- The words that the functions over an engine's parts share.
-use Rattle.std.specs.Prelude.{◌≡◌, ℕ, ◌+◌, ◌<◌, ◌≤◌, false, List, [], length, Option, Some, None, Result, Ok, Err, IsOk}
-use Rattle.gts_engine.specs.Cited.Below.{Accepted, Call, Device, Event, Full, HasRecord, Heard, Holds, IsAccepted, Keeps, Kind, LONGEST_FRAME, MOST_GATHERED, MOST_REPEAT, NoMemory, OpenFault, Outcome, Rose, State, Stopped, SwitchFault, Taken, beside_body, body_of, draw_bytes, event_record, full, outcome, room, seal_size, slice_index_or, written}
-use Rattle.gts_record.specs.declared.fault.OpenFault.TheVariants.{DiskFault}
+use Rattle.std.specs.Prelude.{◌≡◌, ℕ, ◌+◌, ◌<◌, ◌≤◌, false, List, [], length, Option, Some, None, Result, Ok, Err, IfSome, IsOk}
+use Rattle.gts_engine.specs.Cited.Below.{Accepted, Call, Device, Event, Full, HasRecord, Heard, Holds, IsAccepted, Keeps, Kind, LONGEST_FRAME, MOST_GATHERED, MOST_REPEAT, NoMemory, Outcome, State, StationMeanings, Stopped, SwitchFault, Taken, beside_body, body_of, draw_bytes, event_record, full, outcome, room, seal_size, slice_index_or, written}
 use Rattle.gts_engine.specs.declared.parts.EngineParts.{EngineParts}
 use Rattle.gts_engine.specs.Engine.{Engine, Shown, engine_of, shown}
 use Rattle.gts_engine.specs.Keeping.{most_drawn, none_drawn}
@@ -10,8 +9,9 @@ use Rattle.gts_engine.specs.Going.{IsGathering, HasFewDraws, Enters}
 
 -- An engine that goes on has gathered what leads to what its core holds; no more draws of a circuit are gathered than may be; and
 -- where nothing is gathered, nothing is held, and no draw is counted. One that stopped has gathered nothing.
-pub record IsSound {P : Type 0} (observed : Type 0) (calls : P → List Call) (parts : EngineParts P) : Type 0 where
-  pub goes : parts.stopped ≡ None → IsGathering observed parts.directory (calls parts.station) parts.core parts.journal parts.batch
+pub record IsSound {P : Type 0} (station : StationMeanings P) (parts : EngineParts P) : Type 0 where
+  pub goes : parts.stopped ≡ None
+      → IsGathering station.observed parts.directory (station.calls parts.station) parts.core parts.journal parts.batch
   pub few : HasFewDraws parts.directory parts.drawn
   pub rests : (engine_of parts).gathered ≡ false → parts.held ≡ no_sayings
   pub undrawn : (engine_of parts).gathered ≡ false → parts.drawn ≡ none_drawn
@@ -22,11 +22,11 @@ abbrev pub shows : {P : Type 0} → (P → List Call) → EngineParts P → Show
 shows calls parts = shown calls (engine_of parts)
 
 -- An event was entered over the parts: its record was gathered, and the core goes on.
-pub record HasEntered {P : Type 0} (observed : Type 0) (calls : P → List Call) (event : Event) (result : Outcome) (old new : EngineParts P)
+pub record HasEntered {P : Type 0} (station : StationMeanings P) (event : Event) (result : Outcome) (old new : EngineParts P)
     : Type 0 where
-  pub entered : Enters old.directory event result (shows calls old) (shows calls new)
-  pub sound : IsSound observed calls new
-  pub station : new.station ≡ old.station
+  pub entered : Enters old.directory event result (shows station.calls old) (shows station.calls new)
+  pub sound : IsSound station new
+  pub unasked : new.station ≡ old.station
   pub sayings : new.held ≡ old.held
 
 -- the bytes of the record of a bulletin with a body of this size, with its seal and gate
@@ -60,6 +60,10 @@ IsIdleAnswer (Err (Stopped by)) = Unit {0}
 IsIdleAnswer (Err NoMemory) = Unit {0}
 IsIdleAnswer _ = ⊥
 
+-- an engine that stopped answers with its device, and changes nothing
+abbrev pub AnswersStopped : {P T : Type 0} → Result T SwitchFault → (old new : Engine P) → Type 0
+AnswersStopped result old new = IfSome old.stopped (λ by. (result ≡ Err (Stopped by)) × (new ≡ old))
+
 -- nothing was written, gathered or said, and the core holds what it held
 pub record IsUnchanged {P : Type 0} (old new : Engine P) : Type 0 where
   pub station : new.station ≡ old.station
@@ -86,11 +90,6 @@ EachRoom parts body circuits Q =
 -- only the station and what stopped it are other ones
 abbrev pub OnlySaid : {P : Type 0} → (old new : EngineParts P) → Type 0
 OnlySaid old new = new ≡ record old { station = new.station; stopped = new.stopped }
-
--- what a journal's opening costs of the counts of faults
-abbrev pub HasOpenCause : {P : Type 0} → (disk say : P → ℕ) → P → Result (Engine P) (P × OpenFault) → Type 0
-HasOpenCause disk say before (Ok e) = (disk e.station ≡ disk before) × (say e.station ≡ say before)
-HasOpenCause disk say before (Err e) = (disk before ≤ disk e.0) × (e.1 ≡ DiskFault → Rose (disk before) (disk e.0)) × (say e.0 ≡ say before)
 
 -- the same, but for want of memory, which comes only where there is room
 abbrev pub GivesOrMemory : Result (Unit {0}) SwitchFault → Option SwitchFault → Type 0

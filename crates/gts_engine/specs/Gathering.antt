@@ -1,6 +1,6 @@
 -- What an engine has gathered that isn't in its journal yet, what bringing it there leaves, and what a call leaves that gathers.
 use Rattle.std.specs.Prelude.{◌≡◌, ◌⊎◌, ℕ, ◌<◌, ◌≤◌, length, take, true, false, List, [], ◌∷◌, ◌++◌, Result, Ok, Err, OnOk, IfOk, IfErr}
-use Rattle.gts_engine.specs.Cited.Below.{AfterCall, AfterSettling, AreNext, Call, Directory, DiskFault, EachSince, Entry, Event, Files, Gathered, HasCallCause, Holds, InHand, IsAnswered, IsFront, IsSettling, MOST_TOGETHER, OpensTo, OpensToOneOf, Outcome, Outside, Record, Rose, SaidSince, SayFault, Says, StandsFor, State, SwitchFault, Taken, Tries, after_records, on, outcome as outcome_of, said_by, slice_index_or}
+use Rattle.gts_engine.specs.Cited.Below.{AfterCall, AfterSettling, AreNext, AsksOutput, Call, Directory, DiskFault, EachSince, Entry, Event, Files, Gathered, Holds, InHand, IsAnswered, IsFront, IsSettling, MOST_TOGETHER, OpensTo, OpensToOneOf, Outcome, Outside, Record, SaidSince, SayFault, Says, StandsFor, State, StationMeanings, SwitchFault, Taken, Tries, after_records, no_records, on, outcome as outcome_of, said_by, slice_index_or}
 use Rattle.gts_engine.specs.declared.mode.SayMode.{SayMode}
 use Rattle.gts_engine.specs.declared.mode.SayMode.TheVariants.{Caller}
 use Rattle.gts_engine.specs.declared.parts.EngineParts.{EngineParts}
@@ -10,6 +10,7 @@ use Rattle.gts_engine.specs.Origin.{Origin}
 use Rattle.gts_engine.specs.Keeping.{Gathers, state_behind, meanings_of, none_drawn}
 use Rattle.gts_engine.specs.Going.{stopped_after}
 use Rattle.gts_engine.specs.EngineParts.{IsSound, IsIdleAnswer, shows, OnlySaid}
+use Rattle.gts_engine.specs.Causes.{HasStationCause}
 
 -- whatever state the journal stood for, and whatever records were gathered, a crash since leaves that state, or the one with all
 -- of them
@@ -37,6 +38,11 @@ OnlySettled old new =
       drawn = new.drawn;
       stopped = new.stopped;
     }
+
+-- nothing is gathered any more
+pub record IsCleared {P : Type 0} (old new : EngineParts P) : Type 0 where
+  pub rest : new ≡ record old { batch = no_records old.journal; held = no_sayings; drawn = new.drawn }
+  pub drawn : new.drawn ≡ none_drawn
 
 -- the files open to a state, and a front of this got outside
 abbrev pub OpensAlong : Directory → State → Outside → Files → Outside → Type 0
@@ -101,26 +107,25 @@ abbrev pub OnlyHeld : {P : Type 0} → (old new : EngineParts P) → Type 0
 OnlyHeld old new = new ≡ record old { held = new.held }
 
 -- Bytes were to be said on a channel, with this answer: at once, where nothing was gathered; else they are held behind what is held.
-pub record HasTold {P : Type 0} (observed : Type 0) (calls : P → List Call) (disk say : P → ℕ) (channel : ℕ) (bytes : List ℕ)
+pub record HasTold {P : Type 0} (station : StationMeanings P) (channel : ℕ) (bytes : List ℕ)
     (result : Result (Unit {0}) SwitchFault) (old new : EngineParts P) : Type 0 where
-  pub told : (engine_of old).gathered ≡ false → observed → Tries (Says channel bytes) result (calls old.station) (calls new.station)
+  pub told : (engine_of old).gathered ≡ false → station.observed
+      → Tries (Says channel bytes) result (station.calls old.station) (station.calls new.station)
   pub rest : (engine_of old).gathered ≡ false → OnlySaid old new
   pub held : (engine_of old).gathered ≡ true
       → (result ≡ Ok tt) × OnlyHeld old new × ((engine_of new).held ≡ (engine_of old).held ++ on channel bytes ∷ [])
   pub few : length (engine_of new).held ≤ MOST_TOGETHER
   pub stops : new.stopped ≡ stopped_after old.stopped result
-  pub fault : IfErr result (λ fault. (fault ≡ SayFault) × Rose (say old.station) (say new.station))
-  pub later : say old.station ≤ say new.station
-  pub sound : OnOk result (say new.station ≡ say old.station)
-  pub disk_stays : disk new.station ≡ disk old.station
+  pub fault : IfErr result (λ fault. fault ≡ SayFault)
+  pub cause : AsksOutput station result old.station new.station
 
 -- What was gathered in an engine that goes on was to be brought into the journal and said, with this answer.
-pub record HasSettled {P : Type 0} (observed : Type 0) (calls : P → List Call) (disk say : P → ℕ)
+pub record HasSettled {P : Type 0} (station : StationMeanings P)
     (result : Result (Unit {0}) SwitchFault) (old new : EngineParts P) : Type 0 where
   pub settles : (mode : SayMode) (o : Origin) (entries : List Entry) (events : List Event)
-      → Gathers observed mode o entries events (shows calls old)
-      → AfterSettling (meanings_of observed calls mode) o entries events result (engine_of new)
-  pub sound : IsSound observed calls new
+      → Gathers station.observed mode o entries events (shows station.calls old)
+      → AfterSettling (meanings_of station mode) o entries events result (engine_of new)
+  pub sound : IsSound station new
   pub stops : new.stopped ≡ stopped_after old.stopped result
   pub kind : IfErr result IsDeviceFault
   pub rest : OnlySettled old new
@@ -129,63 +134,61 @@ pub record HasSettled {P : Type 0} (observed : Type 0) (calls : P → List Call)
   pub silent : new.held ≡ no_sayings
   pub undrawn : new.drawn ≡ none_drawn
   pub nothing : (engine_of old).gathered ≡ false → (result ≡ Ok tt) × (new ≡ old)
-  pub cause : HasCallCause result (disk old.station) (disk new.station) (say old.station) (say new.station)
+  pub cause : HasStationCause station result old.station new.station
 
 -- the parts stay as they are, or what was gathered was settled
-abbrev pub MayHaveSettled : {P : Type 0} → Type 0 → (P → List Call) → (disk say : P → ℕ) → Result (Unit {0}) SwitchFault
-    → (old new : EngineParts P) → Type 0
-MayHaveSettled observed calls disk say result old new = ((result ≡ Ok tt) × (new ≡ old)) ⊎ HasSettled observed calls disk say result old new
+abbrev pub MayHaveSettled : {P : Type 0} → StationMeanings P → Result (Unit {0}) SwitchFault → (old new : EngineParts P) → Type 0
+MayHaveSettled station result old new = ((result ≡ Ok tt) × (new ≡ old)) ⊎ HasSettled station result old new
 
 -- What a call for an event leaves, whatever entries the engine stood for and whatever events were gathered.
-abbrev pub LeavesCall : {P : Type 0} → Type 0 → (P → List Call) → SayMode → Event → Result Outcome SwitchFault → (old new : Engine P)
-    → Type 0
-LeavesCall observed calls mode event result old new =
-    (o : Origin) (entries : List Entry) (events : List Event) → Gathers observed mode o entries events (shown calls old)
-    → AfterCall (meanings_of observed calls mode) o entries events event result new
+abbrev pub LeavesCall : {P : Type 0} → StationMeanings P → SayMode → Event → Result Outcome SwitchFault → (old new : Engine P) → Type 0
+LeavesCall station mode event result old new =
+    (o : Origin) (entries : List Entry) (events : List Event) → Gathers station.observed mode o entries events (shown station.calls old)
+    → AfterCall (meanings_of station mode) o entries events event result new
 
 -- A call over the parts was answered so, and leaves by the way in which frames are said what a call leaves. The answer is the
 -- outcome; the parts are sound again; and a device that failed stopped them, and was counted.
-pub record AnswersIn {P : Type 0} (observed : Type 0) (calls : P → List Call) (disk say : P → ℕ) (mode : SayMode) (event : Event)
+pub record AnswersIn {P : Type 0} (station : StationMeanings P) (mode : SayMode) (event : Event)
     (result : Result Outcome SwitchFault) (old new : EngineParts P) : Type 0 where
-  pub called : LeavesCall observed calls mode event result (engine_of old) (engine_of new)
+  pub called : LeavesCall station mode event result (engine_of old) (engine_of new)
   pub outcome : IfOk result (λ answer. (s : State) → Holds old.directory old.core s → answer ≡ outcome_of old.directory s event)
   pub directory : new.directory ≡ old.directory
-  pub sound : IsSound observed calls new
+  pub sound : IsSound station new
   pub stops : new.stopped ≡ stopped_after old.stopped result
-  pub cause : HasCallCause result (disk old.station) (disk new.station) (say old.station) (say new.station)
+  pub cause : HasStationCause station result old.station new.station
 
 -- whoever says the frames
-abbrev pub Answers : {P : Type 0} → Type 0 → (P → List Call) → (disk say : P → ℕ) → Event → Result Outcome SwitchFault
-    → (old new : EngineParts P) → Type 0
-Answers observed calls disk say event result old new = (mode : SayMode) → AnswersIn observed calls disk say mode event result old new
+abbrev pub Answers : {P : Type 0} → StationMeanings P → Event → Result Outcome SwitchFault → (old new : EngineParts P) → Type 0
+Answers station event result old new = (mode : SayMode) → AnswersIn station mode event result old new
 
 -- what a call on an engine was answered, and leaves, as an engine that gathers
-abbrev pub GathersEntry : {P : Type 0} → Type 0 → (P → List Call) → SayMode → Event → Result Outcome SwitchFault → (old new : Engine P)
-    → Type 0
-GathersEntry observed calls mode event result old new = IsAnswered (meanings_of observed calls mode) event result old new
+abbrev pub GathersEntry : {P : Type 0} → StationMeanings P → SayMode → Event → Result Outcome SwitchFault → (old new : Engine P) → Type 0
+GathersEntry station mode event result old new = IsAnswered (meanings_of station mode) event result old new
 
 -- A take on c was gathered behind whatever events were, and nothing was settled before: the answer is the event's outcome. The caller
 -- says the frame.
-pub record TakesBehind {P : Type 0} (observed : Type 0) (calls : P → List Call) (c : ℕ) (answer : Outcome)
+pub record TakesBehind {P : Type 0} (station : StationMeanings P) (c : ℕ) (answer : Outcome)
     (old new : Engine P) : Type 0 where
   pub directory : new.directory ≡ old.directory
-  pub gathers : (o : Origin) (entries : List Entry) (events : List Event) → Gathers observed Caller o entries events (shown calls old)
-      → Gathers observed Caller o entries (events ++ Taken c ∷ []) (shown calls new)
-  pub outcome : (o : Origin) (entries : List Entry) (events : List Event) → Gathers observed Caller o entries events (shown calls old)
+  pub gathers : (o : Origin) (entries : List Entry) (events : List Event)
+      → Gathers station.observed Caller o entries events (shown station.calls old)
+      → Gathers station.observed Caller o entries (events ++ Taken c ∷ []) (shown station.calls new)
+  pub outcome : (o : Origin) (entries : List Entry) (events : List Event)
+      → Gathers station.observed Caller o entries events (shown station.calls old)
       → answer ≡ outcome_of o.directory (state_behind o entries events) (Taken c)
 
 -- A call changed nothing: what was gathered before it is settled, and nothing is gathered.
-pub record HasOnlySettled {P : Type 0} (observed : Type 0) (calls : P → List Call) (old new : Engine P) : Type 0 where
-  pub settling : (mode : SayMode) → IsSettling (meanings_of observed calls mode) (Ok tt) old new
+pub record HasOnlySettled {P : Type 0} (station : StationMeanings P) (old new : Engine P) : Type 0 where
+  pub settling : (mode : SayMode) → IsSettling (meanings_of station mode) (Ok tt) old new
   pub emptied : new.gathered ≡ false
 
 -- where nothing changed
-abbrev pub OnIdle : {P : Type 0} → Type 0 → (P → List Call) → Result Outcome SwitchFault → (old new : Engine P) → Type 0
-OnIdle observed calls result old new = IsIdleAnswer result → HasOnlySettled observed calls old new
+abbrev pub OnIdle : {P : Type 0} → StationMeanings P → Result Outcome SwitchFault → (old new : Engine P) → Type 0
+OnIdle station result old new = IsIdleAnswer result → HasOnlySettled station old new
 
 -- What was gathered was to be settled, whoever says the frames. Nothing is gathered any more.
-pub record SettlesEngine {P : Type 0} (observed : Type 0) (calls : P → List Call) (result : Result (Unit {0}) SwitchFault)
+pub record SettlesEngine {P : Type 0} (station : StationMeanings P) (result : Result (Unit {0}) SwitchFault)
     (old new : Engine P) : Type 0 where
-  pub settling : (mode : SayMode) → IsSettling (meanings_of observed calls mode) result old new
+  pub settling : (mode : SayMode) → IsSettling (meanings_of station mode) result old new
   pub emptied : new.gathered ≡ false
   pub nothing : old.gathered ≡ false → (result ≡ Ok tt) × (new ≡ old)

@@ -1,6 +1,6 @@
 -- A message is heard, and room is made for a bulletin for which a journal has none.
 use Rattle.std.specs.Prelude.{◌≡◌, ◌⊎◌, ℕ, ◌+◌, ◌/◌, ◌<◌, ◌≤◌, Bool, true, false, List, [], ◌∷◌, ◌++◌, Option, Some, None, Result, Ok, Err, IsOk, IsSome}
-use Rattle.gts_engine.specs.Cited.Below.{AfterCall, Call, Directory, DiskFault, Doubt, Entry, Event, Full, IsAnswerCause, IsCause, Outcome, State, SwitchFault, all_done, compacted_size, entry_of, full, most_accepted, need, outcome}
+use Rattle.gts_engine.specs.Cited.Below.{AfterCall, Directory, DiskFault, Doubt, Entry, Event, Full, IsAnswerCause, IsCause, Outcome, State, StationMeanings, SwitchFault, all_done, compacted_size, entry_of, full, most_accepted, need, outcome}
 use Rattle.gts_engine.specs.declared.mode.SayMode.{SayMode}
 use Rattle.gts_engine.specs.Engine.{Engine, Shown, shown}
 use Rattle.gts_engine.specs.Origin.{Origin, compacted_after, state_at, used_at}
@@ -50,23 +50,24 @@ outcome_behind o h event = outcome o.directory (state_at o h) event
 -- A message was heard so, and room was made for it: whatever entries the engine stood for, it stands for these and the entry,
 -- with the journal compacted in front of that exactly where there was no room and a compacted journal has it. The answer is the
 -- outcome. A fault has its cause: Full is answered only where a compacted journal would be full, too.
-pub record IsHeardWithRoom {P : Type 0} (observed : Type 0) (calls : P → List Call) (mode : SayMode) (event : Event)
+pub record IsHeardWithRoom {P : Type 0} (station : StationMeanings P) (mode : SayMode) (event : Event)
     (result : Result Outcome SwitchFault) (old new : Engine P) : Type 0 where
   pub directory : new.directory ≡ old.directory
-  pub adds : (o : Origin) (h : List Entry) → Keeps observed mode o h (shown calls old)
-      → AddsPlain observed mode o h event result (shown calls new) ⊎ AddsCompacted observed mode o h event result (shown calls new)
-  pub outcome : (o : Origin) (h : List Entry) → Keeps observed mode o h (shown calls old)
+  pub adds : (o : Origin) (h : List Entry) → Keeps station.observed mode o h (shown station.calls old)
+      → AddsPlain station.observed mode o h event result (shown station.calls new)
+      ⊎ AddsCompacted station.observed mode o h event result (shown station.calls new)
+  pub outcome : (o : Origin) (h : List Entry) → Keeps station.observed mode o h (shown station.calls old)
       → (answer : Outcome) → result ≡ Ok answer → answer ≡ outcome_behind o h event
-  pub caused : (o : Origin) (h : List Entry) → Keeps observed mode o h (shown calls old)
+  pub caused : (o : Origin) (h : List Entry) → Keeps station.observed mode o h (shown station.calls old)
       → (fault : SwitchFault) → result ≡ Err fault → IsCause (IsFullEither o h event) h (outcome_behind o h event) fault
 
 -- whoever says the frames
-abbrev pub HearsWithRoom : {P : Type 0} → Type 0 → (P → List Call) → Event → Result Outcome SwitchFault → (old new : Engine P) → Type 0
-HearsWithRoom observed calls event result old new = (mode : SayMode) → IsHeardWithRoom observed calls mode event result old new
+abbrev pub HearsWithRoom : {P : Type 0} → StationMeanings P → Event → Result Outcome SwitchFault → (old new : Engine P) → Type 0
+HearsWithRoom station event result old new = (mode : SayMode) → IsHeardWithRoom station mode event result old new
 
 -- ---- the same, behind what was gathered
 
-module _ {P : Type 0} (observed : Type 0) (calls : P → List Call) (mode : SayMode) (o : Origin) (entries : List Entry) (events : List Event)
+module _ {P : Type 0} (station : StationMeanings P) (mode : SayMode) (o : Origin) (entries : List Entry) (events : List Event)
     (event : Event) (result : Result Outcome SwitchFault) (new : Engine P) where
   -- the entries, with what was gathered behind them
   abbrev pub so_far : List Entry
@@ -74,37 +75,40 @@ module _ {P : Type 0} (observed : Type 0) (calls : P → List Call) (mode : SayM
 
   -- The event came to a journal as it was, which had room for what was done.
   pub record GathersPlain : Type 0 where
-    pub leaves : AfterCall (meanings_of observed calls mode) o entries events event result new
+    pub leaves : AfterCall (meanings_of station mode) o entries events event result new
     pub had_room : IsOk result → full o.directory (state_at o so_far) (used_at o so_far) event ≡ None
 
   -- The journal was full for the event, and a compacted one has room with bytes to spare: what was gathered was settled, the
   -- journal was compacted behind it, and then the event came.
   pub record GathersCompacted : Type 0 where
-    pub leaves : AfterCall (meanings_of observed calls mode) (compacted_after o so_far) so_far [] event result new
+    pub leaves : AfterCall (meanings_of station mode) (compacted_after o so_far) so_far [] event result new
     pub was_full : IsSome (full o.directory (state_at o so_far) (used_at o so_far) event)
     pub has_room : full_with_spare o.directory (state_at o so_far) event ≡ None
 
   -- What was gathered was settled, and the disk failed while the journal was compacted behind it: the event is in doubt.
   pub record GathersNone : Type 0 where
     pub fault : result ≡ Err DiskFault
-    pub keeps : Keeps observed mode o (so_far ++ Doubt (event ∷ []) ∷ []) (shown calls new)
+    pub keeps : Keeps station.observed mode o (so_far ++ Doubt (event ∷ []) ∷ []) (shown station.calls new)
 
 -- A message was heard so, which may be gathered, and room was made for it: whatever entries the engine stood for, and whatever
 -- events it had gathered. The answer is the outcome. A fault has its cause: Full is answered only where a compacted journal would be
 -- full, too.
-pub record IsGatheredWithRoom {P : Type 0} (observed : Type 0) (calls : P → List Call) (mode : SayMode) (event : Event)
+pub record IsGatheredWithRoom {P : Type 0} (station : StationMeanings P) (mode : SayMode) (event : Event)
     (result : Result Outcome SwitchFault) (old new : Engine P) : Type 0 where
   pub directory : new.directory ≡ old.directory
-  pub adds : (o : Origin) (entries : List Entry) (events : List Event) → Gathers observed mode o entries events (shown calls old)
-      → GathersPlain observed calls mode o entries events event result new
-      ⊎ (GathersCompacted observed calls mode o entries events event result new
-      ⊎ GathersNone observed calls mode o entries events event result new)
-  pub outcome : (o : Origin) (entries : List Entry) (events : List Event) → Gathers observed mode o entries events (shown calls old)
+  pub adds : (o : Origin) (entries : List Entry) (events : List Event)
+      → Gathers station.observed mode o entries events (shown station.calls old)
+      → GathersPlain station mode o entries events event result new
+      ⊎ (GathersCompacted station mode o entries events event result new
+      ⊎ GathersNone station mode o entries events event result new)
+  pub outcome : (o : Origin) (entries : List Entry) (events : List Event)
+      → Gathers station.observed mode o entries events (shown station.calls old)
       → (answer : Outcome) → result ≡ Ok answer → answer ≡ outcome_behind o (entries ++ all_done events) event
-  pub caused : (o : Origin) (entries : List Entry) (events : List Event) → Gathers observed mode o entries events (shown calls old)
+  pub caused : (o : Origin) (entries : List Entry) (events : List Event)
+      → Gathers station.observed mode o entries events (shown station.calls old)
       → (fault : SwitchFault) → result ≡ Err fault → let h : List Entry = entries ++ all_done events in
       IsAnswerCause (IsFullEither o h event) h (outcome_behind o h event) fault
 
 -- whoever says the frames
-abbrev pub GathersWithRoom : {P : Type 0} → Type 0 → (P → List Call) → Event → Result Outcome SwitchFault → (old new : Engine P) → Type 0
-GathersWithRoom observed calls event result old new = (mode : SayMode) → IsGatheredWithRoom observed calls mode event result old new
+abbrev pub GathersWithRoom : {P : Type 0} → StationMeanings P → Event → Result Outcome SwitchFault → (old new : Engine P) → Type 0
+GathersWithRoom station event result old new = (mode : SayMode) → IsGatheredWithRoom station mode event result old new

@@ -1,6 +1,6 @@
 -- What is held to be said.
 use Rattle.std.specs.Prelude.{◌≡◌, ℕ, ◌+◌, ◌<◌, ◌≤◌, List, [], ◌∷◌, ◌++◌, length, take, drop, sum_by}
-use Rattle.gts_engine.specs.Cited.Below.{AllByRecursion, CHANNELS, Outside, on}
+use Rattle.gts_engine.specs.Cited.Below.{Outside, on}
 use Rattle.gts_engine.specs.declared.held.Saying.{Saying}
 use Rattle.gts_engine.specs.declared.held.TheConstants.{MOST_BYTES, MOST_SAYINGS}
 
@@ -27,10 +27,9 @@ joined (piece ∷ pieces) = piece ++ joined pieces
 abbrev pub sizes_of : List Saying → ℕ
 sizes_of sayings = sum_by (λ saying. saying.size) sayings
 
--- the sizes are those of the bytes, and each channel is one of the station's
-pub record AreSayings (each : List Saying) (bytes : List ℕ) : Type 0 where
-  pub sizes : sizes_of each ≡ length bytes
-  pub channels : AllByRecursion (λ saying. saying.channel < CHANNELS) each
+-- the sizes are those of the bytes
+abbrev pub AreSayings : List Saying → List ℕ → Type 0
+AreSayings each bytes = sizes_of each ≡ length bytes
 
 -- so many bytes more may be held
 abbrev pub HasRoom : Sayings → ℕ → Type 0

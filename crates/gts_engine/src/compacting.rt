@@ -1,5 +1,5 @@
 ghost use Rattle.std.specs.Prelude.{◌≡◌, ◌≢◌, ◌-◌, ◌^◌, ◌<◌, ◌≤◌, ℕ, min, length, None, false, IfOk, IfErr, OnOk, MatchResult, IsErrOf};
-ghost use Rattle.gts_engine.specs.Cited.{EachSince, FitBytes, GivesRoom, HasCallCause, HasWritten, Holds, IsBehind, IsClosedAt, IsSizeAt, IsSound, IsWriteFault, LeavesBoth, Needs, Rewrites, StandsOn, State, WorksBeside, checkpoint_text, compacted_bytes, engine_of, full_compacted, held, need_of, need_seal, no_records, said_by, seen, selecting, stopped_after, written};
+ghost use Rattle.gts_engine.specs.Cited.{EachSince, FitBytes, GivesRoom, HasStationCause, HasWritten, Holds, IsBehind, IsClosedAt, IsSizeAt, IsSound, IsWriteFault, LeavesBoth, Needs, Rewrites, StandsOn, State, WorksBeside, checkpoint_text, compacted_bytes, engine_of, full_compacted, held, need_of, need_seal, no_records, said_by, seen, selecting, stopped_after, written};
 ghost use Rattle.gts_engine.specs.Compacting.{IsRoomFault};
 
 use crate::parts::EngineParts;
@@ -13,7 +13,7 @@ use std::alloc::Global;
 /// Whether a checkpoint of this size leaves room for all draws that are due.
 pub fn check_room<P: Station>(parts: &EngineParts<P>, size: u64) -> Result<(), SwitchFault>
     requires going { parts.now.stopped ≡ None }
-    requires sound { IsSound P.observed P.calls parts.now }
+    requires sound { IsSound P.Station parts.now }
     requires rests { (engine_of parts.now).gathered ≡ false }
     ensures room { (s : State) → Holds parts.now.directory parts.now.core s
         → IsSizeAt parts.now.directory s size → GivesRoom result parts.now.directory s }
@@ -50,9 +50,7 @@ fn put<P: Station>(
     ensures stops { parts.new.stopped ≡ stopped_after parts.old.stopped result }
     ensures no_memory { IsErrOf result SwitchFault.NoMemory → parts.new ≡ parts.old }
     ensures fault { IfErr result IsWriteFault }
-    ensures cause { HasCallCause result
-        (P.disk_faults parts.old.station) (P.disk_faults parts.new.station)
-        (P.say_faults parts.old.station) (P.say_faults parts.new.station) }
+    ensures cause { HasStationCause P.Station result parts.old.station parts.new.station }
 {
     match write(alloc, &mut parts.station, file, mark, need) {
         Ok(seal) => Ok(seal),
@@ -92,9 +90,7 @@ fn choose<P: Station>(
     ensures rest { IsBehind parts.old parts.new }
     ensures stops { parts.new.stopped ≡ stopped_after parts.old.stopped result }
     ensures fault { IfErr result (λ e. e ≡ SwitchFault.DiskFault) }
-    ensures cause { HasCallCause result
-        (P.disk_faults parts.old.station) (P.disk_faults parts.new.station)
-        (P.say_faults parts.old.station) (P.say_faults parts.new.station) }
+    ensures cause { HasStationCause P.Station result parts.old.station parts.new.station }
 {
     match parts.journal.select(&mut parts.station, file, used, seal) {
         Ok(()) => {
@@ -116,13 +112,13 @@ pub fn rewrite<P: Station>(
     size: u64,
 ) -> Result<(), SwitchFault>
     requires going { parts.old.stopped ≡ None }
-    requires sound { IsSound P.observed P.calls parts.old }
+    requires sound { IsSound P.Station parts.old }
     requires rests { (engine_of parts.old).gathered ≡ false }
     requires need { Needs parts.old.core (need_of need.now) }
     requires size { size ≡ min (length (checkpoint_text (need_of need.now))) (2 ^ 64 - 1) }
     requires free { (s : State) → Holds parts.old.directory parts.old.core s
         → full_compacted parts.old.directory s ≡ None }
-    ensures { Rewrites P.observed P.calls P.disk_faults P.say_faults result parts.old parts.new }
+    ensures { Rewrites P.Station result parts.old parts.new }
 {
     // A directory is within its bounds.
     parts.directory.bounds_hold();

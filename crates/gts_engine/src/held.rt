@@ -1,8 +1,9 @@
 ghost use Rattle.std.specs.Prelude.{◌≡◌, ◌+◌, ◌<◌, ◌≤◌, ◌↔◌, IsTrue, length, ◌∷◌, [], ◌++◌, take, IfOk, slice_index_or};
-ghost use Rattle.gts_engine.specs.Cited.{CHANNELS, HasRoom, held_pieces, no_sayings, on, sizes_of};
+ghost use Rattle.gts_engine.specs.Cited.{HasRoom, held_pieces, no_sayings, on, sizes_of};
 
 use gts_alphabet::NoMemory;
 use gts_calls::MOST_TOGETHER;
+use gts_traits::Channel;
 use std::alloc::Global;
 use std::marker::Model;
 
@@ -15,7 +16,7 @@ pub const MOST_SAYINGS: usize = MOST_TOGETHER;
 /// One saying: its channel, and how many bytes it has.
 #[derive(Clone, Copy)]
 pub struct Saying {
-    pub channel: u32,
+    pub channel: Channel,
     pub size: usize,
 }
 
@@ -51,7 +52,7 @@ impl Held {
         ensures { IfOk result (λ held. held ≡ no_sayings) }
     {
         let none = Saying {
-            channel: 0,
+            channel: Channel::OPERATOR,
             size: 0,
         };
         Ok(Held {
@@ -77,9 +78,8 @@ impl Held {
     }
 
     /// Holds bytes for a channel behind what is held.
-    pub fn hold(&mut self, channel: u32, bytes: &[u8])
-        requires channel { channel < CHANNELS }
-        requires room { HasRoom self.old (length bytes.now) }
+    pub fn hold(&mut self, channel: Channel, bytes: &[u8])
+        requires { HasRoom self.old (length bytes.now) }
         ensures { held_pieces self.new ≡ held_pieces self.old ++ on channel bytes.now ∷ [] }
     {
         let next = self.size + bytes.len();
@@ -93,10 +93,9 @@ impl Held {
     }
 
     /// The saying of this number, whose bytes begin at this place: its channel and its bytes.
-    pub fn saying(&self, i: usize, at: usize) -> (u32, &[u8])
+    pub fn saying(&self, i: usize, at: usize) -> (Channel, &[u8])
         requires there { i < length self.now.each }
         requires place { at ≡ sizes_of (take i self.now.each) }
-        ensures channel { result.0 < CHANNELS }
         ensures piece { slice_index_or (held_pieces self.now) i [] ≡ on result.0 result.1.now }
         ensures next { at + length result.1.now ≡ sizes_of (take (i + 1) self.now.each) }
         ensures end { at + length result.1.now ≤ MOST_BYTES }

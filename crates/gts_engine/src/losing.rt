@@ -16,10 +16,9 @@ pub fn lose<P: Station>(
     field: FrameField,
 ) -> Result<Outcome, SwitchFault>
     requires going { parts.old.stopped ≡ None }
-    requires sound { IsSound P.observed P.calls parts.old }
+    requires sound { IsSound P.Station parts.old }
     requires circuit { c < length parts.old.directory.circuits }
-    ensures answered { Answers P.observed P.calls P.disk_faults P.say_faults (Lost c field) result
-        parts.old parts.new }
+    ensures answered { Answers P.Station (Lost c field) result parts.old parts.new }
     ensures active { IsIdleAnswer result → ⊥ }
 {
     make_room(parts, 0, LONGEST_RECEIPT)?;

@@ -6,7 +6,7 @@ use gts_frame::{FrameBuf, FrameField, Kind};
 use gts_journal::Journal;
 use gts_memory::MemStation;
 use gts_parts_tests::{MARK, is_same, two_circuits};
-use gts_traits::JournalFile;
+use gts_traits::{Channel, JournalFile};
 use std::alloc::Global;
 use std::net::Ipv4Addr;
 use std::test::Fail;
@@ -82,8 +82,8 @@ fn a_bulletin_goes_to_the_other_circuit(rt: HostRuntime) -> Result<(), Fail> {
     assert!(rt; taken(&mut engine, &mut out, SayMode::Station) == DRAWN);
     assert!(rt; engine.used() == 175);
     let station = station_in(engine);
-    assert!(rt; is_same(station.said(0), RECEIPT));
-    assert!(rt; is_same(station.said(2), FRAME));
+    assert!(rt; is_same(station.said(Channel::OPERATOR), RECEIPT));
+    assert!(rt; is_same(station.said(Channel::of_circuit(1)), FRAME));
     Ok(())
 }
 

@@ -7,7 +7,7 @@ use gts_event::{Device, SwitchFault};
 use gts_frame::{FrameBuf, FrameField, Kind};
 use gts_memory::{MemStation, Touched};
 use gts_parts_tests::is_same;
-use gts_traits::JournalFile;
+use gts_traits::{Channel, JournalFile};
 use std::alloc::Global;
 use std::test::Fail;
 
@@ -141,8 +141,8 @@ fn nothing_is_done_or_said_before_it_is_settled(rt: HostRuntime) -> Result<(), F
     assert!(rt; engine.used() == EMPTY + 2 * (79 + 56));
     let station = station_in(engine);
     assert!(rt; station.calls() == OPENING);
-    assert!(rt; station.said(0).is_empty());
-    assert!(rt; station.said(2).is_empty());
+    assert!(rt; station.said(Channel::OPERATOR).is_empty());
+    assert!(rt; station.said(Channel::of_circuit(1)).is_empty());
     Ok(())
 }
 
@@ -161,8 +161,18 @@ fn several_events_share_one_gate(rt: HostRuntime) -> Result<(), Fail> {
             alone.file(JournalFile::FIRST)
         )
     );
-    assert!(rt; is_same(station.said(0), alone.said(0)));
-    assert!(rt; is_same(station.said(2), alone.said(2)));
+    assert!(rt;
+        is_same(
+            station.said(Channel::OPERATOR),
+            alone.said(Channel::OPERATOR)
+        )
+    );
+    assert!(rt;
+        is_same(
+            station.said(Channel::of_circuit(1)),
+            alone.said(Channel::of_circuit(1))
+        )
+    );
     Ok(())
 }
 
@@ -323,7 +333,7 @@ fn the_event_of_a_call_whose_disk_fails_has_not_come(rt: HostRuntime) -> Result<
     assert!(rt; result == Err(SwitchFault::DiskFault));
     assert!(rt; engine.stopped() == Some(Device::Disk));
     let station = station_in(engine);
-    assert!(rt; station.said(0).is_empty());
+    assert!(rt; station.said(Channel::OPERATOR).is_empty());
     assert!(rt; used_by(alloc, station)? == Some(EMPTY));
     Ok(())
 }

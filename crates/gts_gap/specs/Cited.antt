@@ -9,7 +9,7 @@ pub use Rattle.gts_gap.specs.Ring.{HasDigits, IsCleared, IsRing, IsRingOf, Ring,
 pub use Rattle.gts_gap.specs.Text.{front_text, more_text, run_of, text_of}
 pub use Rattle.gts_gap.specs.Counting.{Adds, AllStand, Comes, DoesAll, DoesStep, EndsInStep, Feeds, FeedsAll, HasTableCause, IsCutAt, IsFed, IsNew, IsRead, IsTabled, Rings, StandFor, table_fault}
 pub use Rattle.gts_gap.specs.Saying.{asked, report, run_line, run_lines, said_from, said_of}
-pub use Rattle.gts_gap.specs.Ending.{HasGapsCause, Names, Reads, report_of}
+pub use Rattle.gts_gap.specs.Ending.{CountsGaps, HasGapsCause, Names, Reads, report_of}
 pub use Rattle.gts_gap.specs.declared.fault.TableFault.{TableFault}
 pub use Rattle.gts_gap.specs.declared.moment.Moment.{Moment}
 pub use Rattle.gts_gap.specs.declared.ring.TheConstants.{PLACES}

@@ -1,6 +1,6 @@
 -- How a run ended that names the numbers that are missing in a capture, and what was said.
 use Rattle.std.specs.Prelude.{◌≡◌, ℕ, ◌≤◌, List}
-use Rattle.gts_gap.specs.Cited.Below.{Call, Directory, IsWhole, Outside, Rose, SaysFront, SaysOnly, Step}
+use Rattle.gts_gap.specs.Cited.Below.{Call, Directory, IsWhole, Outside, Rose, SaysFront, SaysOnly, SourceMeanings, StationMeanings, Step}
 use Rattle.gts_gap.specs.Capture.{numbers}
 use Rattle.gts_gap.specs.Counting.{IsCutAt}
 use Rattle.gts_gap.specs.Saying.{report}
@@ -42,3 +42,8 @@ pub record HasGapsCause (result : GapsEnd) (source source_now say say_now : ℕ)
   pub source_failed : result ≡ end.SourceFault → Rose source source_now
   pub say_failed : result ≡ end.SayFault → Rose say say_now
   pub sound : IsUnfailed result → (source_now ≡ source) × (say_now ≡ say)
+
+-- the same, by what the source and the station stand for
+abbrev pub CountsGaps : {S P : Type 0} → SourceMeanings S → StationMeanings P → GapsEnd → (before after : S) → (old new : P) → Type 0
+CountsGaps source station result before after old new =
+    HasGapsCause result (source.faults before) (source.faults after) (station.say_faults old) (station.say_faults new)

@@ -1,10 +1,10 @@
-ghost use Rattle.std.specs.Prelude.{◌≡◌, ◌<◌, ℕ, List, length, OnOk};
-ghost use Rattle.gts_gap.specs.Cited.{AllStand, HasCause, HasGapsCause, Names, Numbered, StandsAt, Tells, report, said_of};
+ghost use Rattle.std.specs.Prelude.{◌≡◌, ◌<◌, ℕ, List, length};
+ghost use Rattle.gts_gap.specs.Cited.{AllStand, AsksOutput, CountsGaps, Names, Numbered, StandsAt, Tells, report, said_of};
 
-use crate::saying::{OPERATOR, say_request, say_runs};
+use crate::saying::{say_request, say_runs};
 use crate::{AskText, GapTable, GapsEnd, Moment, TableFault, table_of};
 use gts_directory::Directory;
-use gts_traits::{Failed, Source, Station, say};
+use gts_traits::{Channel, Failed, Source, Station, say};
 use std::alloc::Global;
 
 /// Says what is missing on circuit `c`: a line for each run on channel 0, and the request for all on the circuit's channel.
@@ -21,9 +21,7 @@ fn say_circuit<P: Station>(
     ensures told { P.observed → (ns : List Numbered) → StandsAt table.now c ns
         → Tells result (said_of directory.now moment c ns)
         (P.calls station.old) (P.calls station.new) }
-    ensures cause { HasCause result (P.say_faults station.old) (P.say_faults station.new) }
-    ensures sound { OnOk result (P.say_faults station.new ≡ P.say_faults station.old) }
-    ensures disk { P.disk_faults station.new ≡ P.disk_faults station.old }
+    ensures cause { AsksOutput P.Station result station.old station.new }
 {
     // A directory has few circuits.
     let _few = directory.circuits();
@@ -32,7 +30,7 @@ fn say_circuit<P: Station>(
         return Ok(());
     }
     say_request(
-        c + 1,
+        Channel::of_circuit(c),
         directory.circuit(c).peer,
         moment,
         text.bytes(),
@@ -52,14 +50,12 @@ fn say_report<P: Station>(
     ensures told { P.observed → (came : ℕ → List Numbered)
         → AllStand directory.now table.now came → Tells result (report directory.now moment came)
         (P.calls station.old) (P.calls station.new) }
-    ensures cause { HasCause result (P.say_faults station.old) (P.say_faults station.new) }
-    ensures sound { OnOk result (P.say_faults station.new ≡ P.say_faults station.old) }
-    ensures disk { P.disk_faults station.new ≡ P.disk_faults station.old }
+    ensures cause { AsksOutput P.Station result station.old station.new }
 {
     for c in 0..directory.circuits() {
         say_circuit(table, c, directory, moment, text, station)?;
     }
-    say(station, OPERATOR, b"end\n")
+    say(station, Channel::OPERATOR, b"end\n")
 }
 
 /// Reads a capture through its end, and then says which numbers are missing on each circuit of the directory, and the requests
@@ -73,8 +69,8 @@ pub fn gaps<S: Source, P: Station>(
 ) -> GapsEnd
     ensures names { Names S.observed P.observed directory.now moment result (S.left capture.old)
         station.old station.new (P.calls station.old) (P.calls station.new) }
-    ensures cause { HasGapsCause result (S.faults capture.old) (S.faults capture.new)
-        (P.say_faults station.old) (P.say_faults station.new) }
+    ensures cause { CountsGaps S.Source P.Station result capture.old capture.new
+        station.old station.new }
     ensures disk { P.disk_faults station.new ≡ P.disk_faults station.old }
 {
     let Ok(mut text) = AskText::new(alloc) else {

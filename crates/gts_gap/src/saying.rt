@@ -1,13 +1,10 @@
-ghost use Rattle.std.specs.Prelude.{◌≡◌, ◌<◌, ◌≤◌, ◌+◌, ◌++◌, List, length, OnOk};
-ghost use Rattle.gts_gap.specs.Cited.{AllByRecursion, CHANNELS, HasCause, HasDigits, IsDigits, Tells, ask_frame, ask_heading, dec, on, run_line, run_lines};
+ghost use Rattle.std.specs.Prelude.{◌≡◌, ◌≤◌, ◌+◌, ◌++◌, List, length};
+ghost use Rattle.gts_gap.specs.Cited.{AllByRecursion, AsksOutput, HasDigits, IsDigits, Tells, ask_frame, ask_heading, dec, on, run_line, run_lines};
 ghost use Rattle.gts_gap.specs.Saying.{front_text};
 
 use crate::{Moment, Runs};
 use gts_alphabet::{EOL, LONGEST_BODY, SOH, digits_of};
-use gts_traits::{Failed, LONGEST_PIECE, Piece, Station, say};
-
-/// The channel of reports.
-pub(crate) const OPERATOR: u32 = 0;
+use gts_traits::{Channel, Failed, LONGEST_PIECE, Piece, Station, say};
 
 /// The end of a message.
 const END: [u8; 4] = *b"\r\r\n\x03";
@@ -51,16 +48,14 @@ fn line_of(c: u32, first: u32, last: u32, digits: u8) -> Piece
 /// Says a line for each run on circuit `c`.
 pub(crate) fn say_runs<P: Station>(c: u32, runs: Runs<'_>, station: &mut P) -> Result<(), Failed>
     requires { AllByRecursion HasDigits runs }
-    ensures told { P.observed → Tells result (on OPERATOR (run_lines c runs.entry))
+    ensures told { P.observed → Tells result (on 0 (run_lines c runs.entry))
         (P.calls station.old) (P.calls station.new) }
-    ensures cause { HasCause result (P.say_faults station.old) (P.say_faults station.new) }
-    ensures sound { OnOk result (P.say_faults station.new ≡ P.say_faults station.old) }
-    ensures disk { P.disk_faults station.new ≡ P.disk_faults station.old }
+    ensures cause { AsksOutput P.Station result station.old station.new }
 {
     let mut runs = runs;
     while let Some((first, last, digits)) = runs.next() {
         let line = line_of(c, first, last, digits);
-        say(station, OPERATOR, line.bytes())?;
+        say(station, Channel::OPERATOR, line.bytes())?;
     }
     Ok(())
 }
@@ -88,20 +83,17 @@ fn front_of(peer: [u8; 4], moment: Moment, size: u32) -> Piece
 
 /// Says the frame of a request on a channel: its message has the number 000, and goes to this peer.
 pub(crate) fn say_request<P: Station>(
-    channel: u32,
+    channel: Channel,
     peer: [u8; 4],
     moment: Moment,
     text: &[u8],
     station: &mut P,
 ) -> Result<(), Failed>
-    requires channel { channel < CHANNELS }
-    requires short { length text.now ≤ LONGEST_BODY }
+    requires { length text.now ≤ LONGEST_BODY }
     ensures told { P.observed → Tells result (on channel (ask_frame
         (ask_heading peer moment.day moment.hour moment.minute) text.now))
         (P.calls station.old) (P.calls station.new) }
-    ensures cause { HasCause result (P.say_faults station.old) (P.say_faults station.new) }
-    ensures sound { OnOk result (P.say_faults station.new ≡ P.say_faults station.old) }
-    ensures disk { P.disk_faults station.new ≡ P.disk_faults station.old }
+    ensures cause { AsksOutput P.Station result station.old station.new }
 {
     let front = front_of(peer, moment, AROUND_TEXT + text.len() as u32);
     say(station, channel, front.bytes())?;

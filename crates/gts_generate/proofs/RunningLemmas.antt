@@ -2,6 +2,7 @@
 use Rattle.std.proofs.Common.{◌≡◌, ℕ, ◌≤◌, List, [], ◌∷◌, ◌++◌, length, map, sum, Option, Some, None, Result, Ok, Err, IsTrue, refl, sym, ap, subst, ◌∙◌, arith, replicate, if◌then◌else◌, nat_eq}
 use Rattle.gts_generate.specs.Cited.{AllByRecursion, BeginsDay, Compact, Connections, Device, Did, Disk, Done, Doubt, Drain, EachOwedFew, EachRoutedOnce, EndHead, Ends, EndsDay, Engine, Entry, Event, Feed, Files, HasFailed, HasRead, HasSaid, Holds, IsCut, IsDone, IsFullOn, IsOrdered, IsStart, IsWhole, Journaled, Keeps, Need, Needs, ObservedOrigin, One, OpenFault, Opened, Outside, Reading, Reopen, ReplayEnd, Restart, Restarted, Say, SayMode, StandsFor, State, Station, StationInMemory, Step, StopsAtFault, Syncs, Take, Two, Unsaid, Version, after_all, after_step, all_done, begun, calls_on, capture, circuit_need_of, compacted_at, compactions, day_origin, day_summary, directory, draws_in, draws_of, empty, entries, entries_from, entries_of_step, events_added, file_opens, files_open, flat_map, full, head_text, history, is_sound, journal_text, need, need_of, new_journal, no_bytes, nothing, opened_of, opens, origin_behind, origin_of, outside_of, readable, restarted, said_by, seen, selected, settled, shown, slice_index_or, start, starts_with, state_after, state_at, step_text, steps, summary_lines, summary_text, switch_meanings, takes_of_drain, used_at, written}
 use Rattle.gts_directory.specs.Directory as directories
+use Rattle.gts_memory.specs.contracts.station.MemStationStation.TheImpl as in_memory
 use Rattle.gts_event.specs.declared.values.Need as values
 use Rattle.gts_event.specs.declared.values.CircuitNeed as value_circuits
 use Rattle.gts_event.specs.declared.fault.SwitchFault.TheVariants as switch
@@ -130,14 +131,14 @@ module _ (count : ℕ) (first last : Engine StationInMemory) (b : BeginsDay firs
   read-here : (ss : List Step) (at : ℕ) → Reading first.directory (capture count) ss at → ss ≡ steps count
   read-here ss at read = one-reading count few ss at (subst (λ (d : directories.Directory). Reading d (capture count) ss at) b.under read)
 
-  pub day-done : IsDone (switch_meanings (Unit {0}) calls_on) Journaled o [] (Unit {0}) first last (capture count) → EndsDay count last
+  pub day-done : IsDone (switch_meanings in_memory.ghosts) Journaled o [] (Unit {0}) first last (capture count) → EndsDay count last
   day-done x =
       let whole : IsWhole directory (capture count) x.steps = subst (λ (d : directories.Directory). IsWhole d (capture count) x.steps) b.under (x.whole tt) in
       let read = whole_is_read Journaled directory (capture count) x.steps whole in
       let same : x.steps ≡ steps count = one-reading count few x.steps (length (flat_map step_text x.steps ++ head_text EndHead)) read in
       let keeps : Keeps (Unit {0}) Station (day_origin (calls_on first.station)) (history count) (shown calls_on last)
       = subst (λ (es : List Entry). Keeps (Unit {0}) Station (day_origin (calls_on first.station)) es (shown calls_on last)) (entries-are x.steps same)
-      (subst (λ (ks : List ℕ). settled (switch_meanings (Unit {0}) calls_on) (compacted_at (switch_meanings (Unit {0}) calls_on) o (entries first.directory start x.steps) ks)
+      (subst (λ (ks : List ℕ). settled (switch_meanings in_memory.ghosts) (compacted_at (switch_meanings in_memory.ghosts) o (entries first.directory start x.steps) ks)
       (entries first.directory start x.steps) last) (counts-are x.steps same) x.stands) in
       let going : last.stopped ≡ None = goes-on last.stopped (history count) (steps-done directory start (no_bytes directory) (steps count)) keeps.failed in
       let said = subst (λ (stopped : Option Device). HasSaid Station (day_origin (calls_on first.station)) (history count) stopped (calls_on last.station)) going (keeps.leaves tt).said in
@@ -148,7 +149,7 @@ module _ (count : ℕ) (first last : Engine StationInMemory) (b : BeginsDay firs
         said = said ∙ ap (λ (l : Outside). l ++ outside_of count) b.silent;
       }
 
-  pub day-full : (used wanted limit : ℕ) → StopsAtFault (switch_meanings (Unit {0}) calls_on) Journaled o [] (Unit {0}) (switch.Full used wanted limit) first last (capture count)
+  pub day-full : (used wanted limit : ℕ) → StopsAtFault (switch_meanings in_memory.ghosts) Journaled o [] (Unit {0}) (switch.Full used wanted limit) first last (capture count)
       → IsFullOn count used wanted limit
   day-full used wanted limit x =
       let read = x.read tt in
@@ -158,26 +159,26 @@ module _ (count : ℕ) (first last : Engine StationInMemory) (b : BeginsDay firs
         event = x.breaks.event;
         back = x.breaks.behind;
         parts = sym (entries-are x.steps same) ∙ x.breaks.parts;
-        full = subst (λ (ks : List ℕ). let p = origin_behind (switch_meanings (Unit {0}) calls_on) o ks x.breaks.front in
+        full = subst (λ (ks : List ℕ). let p = origin_behind (switch_meanings in_memory.ghosts) o ks x.breaks.front in
             full p.origin.directory (state_at p.origin x.breaks.front) (used_at p.origin x.breaks.front) x.breaks.event ≡ Some (switch.Full used wanted limit))
             (counts-are x.steps same) x.breaks.cause;
       }
 
-  pub day-whole : (at : ℕ) → IsCut (switch_meanings (Unit {0}) calls_on) Journaled o [] (Unit {0}) at first last (capture count) → ⊥
+  pub day-whole : (at : ℕ) → IsCut (switch_meanings in_memory.ghosts) Journaled o [] (Unit {0}) at first last (capture count) → ⊥
   day-whole at x =
       x.none tt (steps count) (subst (λ (d : directories.Directory). IsWhole d (capture count) (steps count)) (sym b.under) (read-as-steps count few))
 
-  stands-for : StandsFor (switch_meanings (Unit {0}) calls_on) o 0 [] first
+  stands-for : StandsFor (switch_meanings in_memory.ghosts) o 0 [] first
   stands-for = record {
     start = subst (λ (d : directories.Directory). IsStart d start) (sym b.under) b.begins;
     stands = record { front = []; events = []; is = refl; within = omega arith; gathers = b.stands };
   }
 
   module _ (e : ReplayEnd) (bytes left : List ℕ) (is : bytes ≡ capture count)
-      (ends : (t : ObservedOrigin (Unit {0})) (h : List Entry) → StandsFor (switch_meanings (Unit {0}) calls_on) t (length h) h first
-      → Ends (switch_meanings (Unit {0}) calls_on) (Unit {0}) Journaled t h (Unit {0}) e first last bytes left) where
-    all : Ends (switch_meanings (Unit {0}) calls_on) (Unit {0}) Journaled o [] (Unit {0}) e first last (capture count) left
-    all = subst (λ (bs : List ℕ). Ends (switch_meanings (Unit {0}) calls_on) (Unit {0}) Journaled o [] (Unit {0}) e first last bs left) is (ends o [] stands-for)
+      (ends : (t : ObservedOrigin (Unit {0})) (h : List Entry) → StandsFor (switch_meanings in_memory.ghosts) t (length h) h first
+      → Ends (switch_meanings in_memory.ghosts) (Unit {0}) Journaled t h (Unit {0}) e first last bytes left) where
+    all : Ends (switch_meanings in_memory.ghosts) (Unit {0}) Journaled o [] (Unit {0}) e first last (capture count) left
+    all = subst (λ (bs : List ℕ). Ends (switch_meanings in_memory.ghosts) (Unit {0}) Journaled o [] (Unit {0}) e first last bs left) is (ends o [] stands-for)
 
     pub run-done : e ≡ end.Done → EndsDay count last
     run-done at_end = day-done (all.done at_end)

@@ -1,4 +1,4 @@
-ghost use Rattle.std.specs.Prelude.{◌≡◌, ◌+◌, ◌<◌, ◌≤◌, ◌++◌, [], ℕ, length, IfOk, IsOk, OnOk, IfSome, IsSome, IsNone};
+ghost use Rattle.std.specs.Prelude.{◌≡◌, ◌+◌, ◌<◌, ◌≤◌, ◌++◌, [], length, IfOk, IsOk, IfSome, IsSome, IsNone};
 ghost use Rattle.gts_generate.specs.Cited.{HasCause, IsSound, Takes, bytes_left, pieces_left};
 ghost use Rattle.gts_generate.specs.Day as day;
 
@@ -97,7 +97,6 @@ impl Source for Generated {
         ensures bytes { Takes result self.old self.new into.new }
         ensures count { IfOk result (λ count. count ≤ length into.new) }
         ensures cause { HasCause result 0 0 }
-        ensures sound { let none : ℕ = 0 in OnOk result (none ≡ none) }
 
         // Beside what the trait says.
         ensures never { IsOk result }

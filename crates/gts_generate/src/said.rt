@@ -6,7 +6,7 @@ ghost use Rattle.gts_generate.specs.Summary as summaries;
 use crate::CIRCUITS;
 use gts_alphabet::ETX;
 use gts_memory::MemStation;
-use gts_traits::NoMemory;
+use gts_traits::{Channel, NoMemory};
 use sha2::{Digest, Sha256};
 
 /// What was said on the channels of the circuits: how many bytes, how many frames, and the digest of all the bytes.
@@ -26,10 +26,11 @@ fn frames_in(bytes: &[u8]) -> usize
 }
 
 /// What was said on a channel, where it is one of a circuit; else nothing.
-fn on_circuit(channel: u32, said: &[u8]) -> &[u8]
+fn on_circuit(channel: Channel, said: &[u8]) -> &[u8]
     ensures { result.now ≡ (if summaries.is_circuit channel then said.now else []) }
 {
-    if 1 <= channel && channel <= CIRCUITS {
+    let number = channel.number();
+    if 1 <= number && number <= CIRCUITS {
         said
     } else {
         &[]
@@ -49,14 +50,14 @@ pub(crate) fn said_on_circuits(station: &MemStation) -> Result<Said, NoMemory>
     let mut hasher = Sha256::new();
     let (mut bytes, mut frames) = (0, 0);
     for k in 0..u64::MAX {
-        let Some((channel, said)) = station.saying(k) else {
+        let Some(found) = station.saying(k) else {
             return Ok(Said {
                 bytes,
                 frames,
                 digest: hasher.finalize(),
             });
         };
-        let said = on_circuit(channel, said);
+        let said = on_circuit(found.0, found.1);
         hasher.update(said);
         bytes += said.len() as u128;
         frames += frames_in(said) as u128;

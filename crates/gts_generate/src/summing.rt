@@ -6,7 +6,7 @@ use crate::said::said_on_circuits;
 use gts_event::{CircuitNeed, Need};
 use gts_memory::MemStation;
 use gts_report::ReportText;
-use gts_traits::NoMemory;
+use gts_traits::{Channel, NoMemory};
 use itoa::Buffer;
 use std::alloc::Global;
 
@@ -111,7 +111,7 @@ pub fn summary(
     let draws = draws_of(need.circuits.as_slice());
     add_line(alloc, text, b"messages", u128::from(count))?;
     add_line(alloc, text, b"accepted", u128::from(need.accepted))?;
-    add_receipts(alloc, text, station.said(0))?;
+    add_receipts(alloc, text, station.said(Channel::OPERATOR))?;
     add_line(alloc, text, b"draws", draws)?;
     add_line(alloc, text, b"resends", said.frames.saturating_sub(draws))?;
     add_line(alloc, text, b"bytes", said.bytes)?;

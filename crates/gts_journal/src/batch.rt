@@ -1,5 +1,5 @@
 ghost use Rattle.std.specs.Prelude.{◌≡◌, ◌≢◌, ◌+◌, ◌-◌, ◌≤◌, ◌<◌, ◌^◌, ◌==◌, true, ℕ, List, [], ◌∷◌, ◌++◌, length, IfOk, IsErr, OnOk};
-ghost use Rattle.gts_journal.specs.Cited.{EachSince, Gathers, HasBlock, HasCause, IsBlock, IsRecord, IsSynced, LeavesAllOrNone, ReachesWithin, Record as RecordOf, STEP, StandsOn, beyond_block, file_of, no_records, record_of, record_size, record_text, said_by, seen};
+ghost use Rattle.gts_journal.specs.Cited.{AsksDisk, EachSince, Gathers, HasBlock, IsBlock, IsRecord, IsSynced, LeavesAllOrNone, ReachesWithin, Record as RecordOf, STEP, StandsOn, beyond_block, file_of, no_records, record_of, record_size, record_text, said_by, seen};
 
 use crate::opening::zeros;
 use crate::{CLOSED, Journal, LARGEST_FILE, OPEN};
@@ -177,9 +177,7 @@ impl Journal {
             (LeavesAllOrNone (P.calls station.old) self.old batch.old.text) }
         ensures silent { P.observed → said_by (P.calls station.new) ≡ said_by
             (P.calls station.old) }
-        ensures cause { HasCause result (P.disk_faults station.old) (P.disk_faults station.new) }
-        ensures sound { OnOk result (P.disk_faults station.new ≡ P.disk_faults station.old) }
-        ensures say { P.say_faults station.new ≡ P.say_faults station.old }
+        ensures cause { AsksDisk P.Station result station.old station.new }
     {
         let size = batch.size;
         let end = extent(self.gate, self.reach, size);

@@ -1,5 +1,5 @@
 ghost use Rattle.std.specs.Prelude.{◌≡◌, ◌⊎◌, ◌+◌, ◌≤◌, ◌<◌, ◌^◌, true, false, length, if◌then◌else◌, IfOk, IfSome, OnOk, IsErrOf};
-ghost use Rattle.gts_journal.specs.Cited.{Gives, GoesOn, HasCause, HasGoneOn, IsRecord, Rose, StandsOn, held, next_entry, record_of, sem};
+ghost use Rattle.gts_journal.specs.Cited.{Gives, GoesOn, HasGoneOn, IsRecord, LooksAt, LooksAtOf, StandsOn, held, next_entry, record_of, sem};
 
 use crate::{AHEAD, Journal, LONGEST, OPEN};
 use gts_record::{OpenFault, Record, Version, decode_sealed};
@@ -50,10 +50,7 @@ impl Journal {
             ((self.new.is_all ≡ true) ⊎ (LONGEST ≤ length self.new.ahead)) }
         ensures stands { P.observed → StandsOn (P.calls station.old) self.old
             → StandsOn (P.calls station.new) self.new }
-        ensures told { P.observed → P.calls station.new ≡ P.calls station.old }
-        ensures cause { HasCause result (P.disk_faults station.old) (P.disk_faults station.new) }
-        ensures sound { OnOk result (P.disk_faults station.new ≡ P.disk_faults station.old) }
-        ensures say { P.say_faults station.new ≡ P.say_faults station.old }
+        ensures looks { LooksAt P.Station result station.old station.new }
     {
         self.begin = 0;
         self.end = 0;
@@ -72,10 +69,7 @@ impl Journal {
             ((self.new.is_all ≡ true) ⊎ (LONGEST ≤ length self.new.ahead)) }
         ensures stands { P.observed → StandsOn (P.calls station.old) self.old
             → StandsOn (P.calls station.new) self.new }
-        ensures told { P.observed → P.calls station.new ≡ P.calls station.old }
-        ensures cause { HasCause result (P.disk_faults station.old) (P.disk_faults station.new) }
-        ensures sound { OnOk result (P.disk_faults station.new ≡ P.disk_faults station.old) }
-        ensures say { P.say_faults station.new ≡ P.say_faults station.old }
+        ensures looks { LooksAt P.Station result station.old station.new }
     {
         if self.is_all || self.end - self.begin >= LONGEST {
             return Ok(());
@@ -95,13 +89,8 @@ impl Journal {
             × (P.observed → StandsOn (P.calls station.new) next))) }
         ensures read { P.observed → Gives result (next_entry (P.calls station.old) self.old) }
         ensures sound { IfOk result (λ found. IfSome found (λ r. IsRecord (record_of r))) }
-        ensures told { P.observed → P.calls station.new ≡ P.calls station.old }
+        ensures looks { LooksAtOf P.Station OpenFault.DiskFault result station.old station.new }
         ensures memory { IsErrOf result OpenFault.NoMemory → ⊥ }
-        ensures disk_fault { IsErrOf result OpenFault.DiskFault
-            → Rose (P.disk_faults station.old) (P.disk_faults station.new) }
-        ensures later { P.disk_faults station.old ≤ P.disk_faults station.new }
-        ensures still { OnOk result (P.disk_faults station.new ≡ P.disk_faults station.old) }
-        ensures say { P.say_faults station.new ≡ P.say_faults station.old }
     {
         self.ready(station)?;
         let [mark, rest @ ..] = &self.buffer[self.begin..self.end] else {

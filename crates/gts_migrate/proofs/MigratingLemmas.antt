@@ -3,7 +3,7 @@ use Rattle.std.proofs.Common.{◌≡◌, ◌≢◌, inl, inr, ℕ, ◌+◌, ◌-
 use Rattle.std.proofs.lemmas.Bool.{cases_eq}
 use Rattle.std.proofs.Math.Nat.{add-mul}
 use Rattle.std.proofs.lemmas.List.{append-nil, map-append}
-use Rattle.gts_migrate.specs.Cited.{AnswersOpening, AnswersWaiting, Call, CanMigrate, Core, CountsSays, Did, Directory, DiskFault, Dropped, EachSince, EndsAt, Files, FitsFor, Full, GivesRoomFor, HasFewDue, HasWritten, InHand, IsBrought, IsClosedAt, IsDiskFaultOf, IsFront, IsImage, IsMigrated, IsOpenedAny, IsSynced, IsWriteFaultOf, LeavesBoth, LeavesFiles, LeavesOthers, MigrateFault, Need, Needs, NoMemory, OnlySyncs, Open, OpenFault, Opened, OpensWith, Outside, Refused, Rose, SayFault, SaysAll, SaysFor, StandsForAny, StandsOn, State, Syncs, TakesOver, Version, Waiting, Waits, WorksBeside, WriteFault, begun, checkpoint_file, closed_gate, compacted_bytes, draw_size, due, file_opens, files_open_any, files_open_in, files_read, full_compacted, goes_on, is_sound, keeps_one, need, on, opened_of, opened_on, opens, opens_any, opens_in, restarted, said_by, seal_size, seen, selected, selected_bytes, selecting as selecting_at, unowed, version_of, write_fault, written}
+use Rattle.gts_migrate.specs.Cited.{AnswersOpening, AnswersWaiting, Call, CanMigrate, Core, CountsFaults, CountsSays, Did, Directory, DiskFault, Dropped, EachSince, EndsAt, Files, FitsFor, Full, GivesRoomFor, HasFewDue, HasWritten, InHand, IsBrought, IsClosedAt, IsFront, IsImage, IsMigrated, IsOpenedAny, IsSynced, IsWriteFaultOf, LeavesBoth, LeavesFiles, LeavesOthers, MigrateFault, Need, Needs, NoMemory, OnlySyncs, Open, OpenFault, Opened, OpensWith, Outside, Refused, Rose, SayFault, SaysAll, SaysFor, StandsForAny, StandsOn, State, StationMeanings, Syncs, TakesOver, Version, Waiting, Waits, WorksBeside, WriteFault, begun, checkpoint_file, closed_gate, compacted_bytes, draw_size, due, file_opens, files_open_any, files_open_in, files_read, full_compacted, goes_on, is_sound, keeps_one, need, on, opened_of, opened_on, opens, opens_any, opens_in, restarted, said_by, seal_size, seen, selected, selected_bytes, selecting as selecting_at, unowed, version_of, write_fault, written}
 use Rattle.gts_traits.proofs.LawLemmas.{weaker, started, joined, told, said_is, synced_image}
 use Rattle.gts_event.proofs.LawLemmas.{restarted-left, sound-held}
 use Rattle.gts_migrate.proofs.LettingGoLemmas.{held-on, sound-on, on-restarted}
@@ -335,23 +335,11 @@ opening_after (Err NoMemory) opened n kind is = (n, is)
 -- where there was no memory, nothing was written
 pub told_after : {P : Type 0} (calls : P → List Call) (result : Result (Unit {0}) MigrateFault) (old mid new : P) → IfErr result IsWriteFaultOf → (IsErrOf result NoMemory → new ≡ mid)
     → OnlySyncs (calls old) (calls mid) → LeavesFiles result → OnlySyncs (calls old) (calls new)
-told_after calls (Ok done) old mid new kind same told leaves = absurd leaves
 told_after calls (Err (Open e)) old mid new kind same told leaves = absurd kind
 told_after calls (Err (Waits c count)) old mid new kind same told leaves = absurd kind
 told_after calls (Err (Full at wanted limit)) old mid new kind same told leaves = absurd kind
-told_after calls (Err DiskFault) old mid new kind same told leaves = absurd leaves
-told_after calls (Err SayFault) old mid new kind same told leaves = absurd leaves
 told_after calls (Err NoMemory) old mid new kind same told leaves = subst (λ p. OnlySyncs (calls old) (calls p)) (sym (same refl)) told
-
--- a fault of the disk has its count
-pub disk_after : (result : Result (Unit {0}) MigrateFault) (before mid now : ℕ) → IfErr result IsWriteFaultOf → (IsErrOf result DiskFault → Rose mid now) → before ≤ mid → IsDiskFaultOf result → Rose before now
-disk_after (Ok done) before mid now kind rose later is = absurd is
-disk_after (Err (Open e)) before mid now kind rose later is = absurd kind
-disk_after (Err (Waits c count)) before mid now kind rose later is = absurd kind
-disk_after (Err (Full at wanted limit)) before mid now kind rose later is = absurd kind
-disk_after (Err DiskFault) before mid now kind rose later is = omega (arith, rose refl, later)
-disk_after (Err SayFault) before mid now kind rose later is = absurd is
-disk_after (Err NoMemory) before mid now kind rose later is = absurd is
+told_after calls _ old mid new kind same told leaves = absurd leaves
 
 -- the journal was taken over, seen from before the sync
 pub migrated_after : (result : Result (Unit {0}) MigrateFault) (old new : Directory) (s t : State) (n : Need) (before mid after : List Call) (j : InHand) → mid ≡ Did Syncs ∷ before → t ≡ s → CanMigrate old new s n mid j
@@ -391,6 +379,12 @@ silent_by result text before after none said = go result (subst (λ (o : Outside
     go (Err DiskFault) (inl none) = none ∙ append-nil (said_by before)
     go (Err DiskFault) (inr all) = all ∙ append-nil (said_by before)
 
--- counts of saying, seen from before the opening
-pub counts_after : (result : Result (Unit {0}) MigrateFault) (before mid now : ℕ) → mid ≡ before → CountsSays result mid now → CountsSays result before now
-counts_after result before mid now same counts = subst (λ (k : ℕ). CountsSays result k now) same counts
+-- counts of faults, seen from before the opening, which left them as they were
+pub counts_after : {P : Type 0} (station : StationMeanings P) (result : Result (Unit {0}) MigrateFault) (old mid new : P) → station.disk_faults mid ≡ station.disk_faults old
+    → station.say_faults mid ≡ station.say_faults old → CountsFaults station result mid new → CountsFaults station result old new
+counts_after station result old mid new disk say counts = record {
+  later = omega (arith, disk, counts.later);
+  failed = λ is. subst (λ (k : ℕ). Rose k (station.disk_faults new)) disk (counts.failed is);
+  sound = subst (λ (k : ℕ). OnOk result (station.disk_faults new ≡ k)) disk counts.sound;
+  say = subst (λ (k : ℕ). CountsSays result k (station.say_faults new)) say counts.say;
+}

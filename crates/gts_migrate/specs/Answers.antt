@@ -1,6 +1,6 @@
 -- What is answered where a journal is to be taken over.
-use Rattle.std.specs.Prelude.{◌≡◌, ◌≢◌, ◌⊎◌, ◌≤◌, ℕ, List, [], Option, None, Some, Result, Ok, Err}
-use Rattle.gts_migrate.specs.Cited.Below.{Call, Directory, IsAnswer, IsFront, IsFullCompacted, Need, OldVersion, OpenFault, Outside, Rose, SaidSince, State, WriteFault, full_compacted}
+use Rattle.std.specs.Prelude.{◌≡◌, ◌≢◌, ◌⊎◌, ◌≤◌, ℕ, List, [], Option, None, Some, Result, Ok, Err, OnOk}
+use Rattle.gts_migrate.specs.Cited.Below.{Call, Directory, IsAnswer, IsFront, IsFullCompacted, Need, OldVersion, OpenFault, Outside, Rose, SaidSince, State, StationMeanings, WriteFault, full_compacted}
 use Rattle.gts_event.specs.declared.fault.SwitchFault.TheVariants as switch
 use Rattle.gts_record.specs.declared.fault.OpenFault.TheVariants as broke
 use Rattle.gts_checkpoint.specs.declared.fault.WriteFault.TheVariants as writes
@@ -83,6 +83,14 @@ SaysFor (Err fault) text before after = SaidSince before after []
 abbrev pub CountsSays : Result (Unit {0}) MigrateFault → ℕ → ℕ → Type 0
 CountsSays (Err SayFault) before after = (before ≤ after) × Rose before after
 CountsSays result before after = after ≡ before
+
+-- What a migration leaves of a station's counts of faults. That of the disk rose where it was the disk that failed, and is as before
+-- where the journal was taken over; that of saying rose where saying failed, and else is as before. None falls.
+pub record CountsFaults {P : Type 0} (station : StationMeanings P) (result : Result (Unit {0}) MigrateFault) (old new : P) : Type 0 where
+  pub later : station.disk_faults old ≤ station.disk_faults new
+  pub failed : IsDiskFaultOf result → Rose (station.disk_faults old) (station.disk_faults new)
+  pub sound : OnOk result (station.disk_faults new ≡ station.disk_faults old)
+  pub say : CountsSays result (station.say_faults old) (station.say_faults new)
 
 -- saying failed
 abbrev pub IsSayFaultOf : Result (Unit {0}) MigrateFault → Type 0

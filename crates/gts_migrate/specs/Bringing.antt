@@ -1,6 +1,6 @@
 -- What is needed of each circuit under a directory that takes over.
-use Rattle.std.specs.Prelude.{◌≡◌, ℕ, Bool, List, [], if◌then◌else◌, Option, None, Some, Result, Ok, Err}
-use Rattle.gts_migrate.specs.Cited.Below.{CircuitNeed, Directory, Need, circuit_needs, last_of}
+use Rattle.std.specs.Prelude.{◌≡◌, ◌==◌, ℕ, Bool, List, [], get_or, slice_get, if◌then◌else◌, Option, None, Some, Result, Ok, Err}
+use Rattle.gts_migrate.specs.Cited.Below.{Circuit, CircuitNeed, Directory, Need, circuit_needs, last_of, unused}
 use Rattle.gts_migrate.specs.LettingGo.{goes_on}
 use Rattle.gts_migrate.specs.declared.fault.MigrateFault.{MigrateFault}
 use Rattle.gts_migrate.specs.declared.fault.MigrateFault.TheVariants.{Waits}
@@ -17,6 +17,13 @@ under_row closed same count c = record c {
 -- what is needed of each circuit of the new directory
 abbrev pub circuits_under : Directory → Directory → Need → List CircuitNeed
 circuits_under new old n = circuit_needs new (goes_on new old n)
+
+-- each circuit that has a row in both directories goes on with what it brings along under the new one
+abbrev pub EachGoesOn : Directory → Directory → Need → Type 0
+EachGoesOn new old n =
+    (c : ℕ) (row next : Circuit) → slice_get old.circuits c ≡ Some row → slice_get new.circuits c ≡ Some next
+    → get_or (circuits_under new old n) c unused
+    ≡ under_row next.closed (next.digits == row.digits) next.kept (get_or n.circuits c unused)
 
 -- where something waits on a closed circuit, the first such one is answered with how many wait
 abbrev pub TellsWaiting : {T : Type 0} → Result T MigrateFault → Option (ℕ × ℕ) → Type 0

@@ -1,5 +1,5 @@
 -- A journal is taken over: it goes on under a directory that takes over from its own.
-use Rattle.std.specs.Prelude.{◌≡◌, ◌≢◌, ◌⊎◌, ◌+◌, ◌*◌, ◌^◌, ◌<◌, ◌≤◌, List, ◌∷◌, Ok, IsTrue}
+use Rattle.std.specs.Prelude.{◌≡◌, ◌≢◌, ◌⊎◌, ◌+◌, ◌*◌, ◌^◌, ◌<◌, ◌≤◌, List, ◌∷◌, Result, Ok, IsTrue}
 use Rattle.gts_migrate.specs.Cited.Below.{Call, Core, Did, Directory, EachSince, Files, Holds, InHand, IsFront, IsImage, Need, Outside, StandsForAny, Syncs, begun, checkpoint_file, compacted_bytes, draw_size, due, is_sound, keeps_one, need, opens, seen, selected, written}
 pub use Rattle.gts_directory.specs.TakingOver.{TakesOver}
 pub use Rattle.gts_event.specs.State.{State}
@@ -11,6 +11,8 @@ pub use Rattle.gts_directory.specs.Directory.{Directory as DirectoryOf}
 pub use Rattle.gts_event.specs.Need.{Need as NeedOf, need as need_at, unused as unused_of}
 pub use Rattle.gts_event.specs.Items.{circuit_need_of, need_of}
 pub use Rattle.gts_opening.specs.Journal.{checkpoint_text}
+use Rattle.gts_migrate.specs.Answers.{SaysFor}
+use Rattle.gts_migrate.specs.declared.fault.MigrateFault.{MigrateFault}
 use Rattle.gts_migrate.specs.declared.waiting.Waiting.{Waiting}
 
 -- The files open under the old directory, in either version, to this need, with a front of this text said; or under the new one to
@@ -32,6 +34,10 @@ OpensWithAt text old new s = OpensWith text old new (need old (restarted old s))
 abbrev pub StaysEither : Waiting → Directory → Directory → Need → (before after : List Call) → Type 0
 StaysEither waiting old new n before after =
     opens_any old (seen before) ≡ Ok n → EachSince (Did Syncs ∷ before) after (OpensEither waiting old new n)
+
+-- the same as the receipts of what is dropped, of files that opened to this state
+abbrev pub SaysDropped : Waiting → Directory → Directory → State → Result (Unit {0}) MigrateFault → (before after : List Call) → Type 0
+SaysDropped waiting old new s result = SaysFor result (sayings waiting new (need old s))
 
 -- The other file is selected, and the one before stays as it is. The other one is the checkpoint of the need under the new
 -- directory alone, under the mark of that; and whatever a crash leaves opens under that to what it takes over of what the old
@@ -65,6 +71,12 @@ pub record CanMigrate (old new : Directory) (s : State) (n : Need) (calls : List
   pub keeps : IsTrue (keeps_one new)
   pub sound : IsTrue (is_sound old (need old s))
   pub brought : n ≡ need new (goes_on new old (need old s))
+
+-- Whatever state the journal stands for, a crash at any moment since leaves files that open to it under the old directory, or to what
+-- the new one takes over of it, with this text said.
+abbrev pub StaysWith : Outside → Directory → Need → InHand → (before after : List Call) → Type 0
+StaysWith text new n j before after =
+    (old : Directory) (s : State) → CanMigrate old new s n before j → EachSince before after (OpensWithAt text old new s)
 
 -- the need is sound under the new directory, and there is room for its checkpoint and all draws due
 pub record FitsFor (new : Directory) (n : Need) : Type 0 where

@@ -1,5 +1,5 @@
-ghost use Rattle.std.specs.Prelude.{◌≡◌, ◌≤◌, ◌⊎◌, ℕ, Ok, OnOk};
-ghost use Rattle.gts_migrate.specs.Cited.{AnswersOpening, AnswersWaiting, CountsSays, GivesRoomFor, IsDiskFaultOf, IsMigrated, IsSayFaultOf, LeavesFiles, Need as NeedOf, OnlySyncs, Rose, SaysFor, State, StaysEither, TakesOver, WasOpened, files_open_any, goes_on, need as need_at, on, opens_any, said_by, sayings, seen, waits_on_closed};
+ghost use Rattle.std.specs.Prelude.{◌≡◌, ◌⊎◌, ℕ, Ok, OnOk};
+ghost use Rattle.gts_migrate.specs.Cited.{AnswersOpening, AnswersWaiting, CountsFaults, GivesRoomFor, IsMigrated, IsSayFaultOf, LeavesFiles, Need as NeedOf, OnlySyncs, SaysDropped, State, StaysEither, TakesOver, WasOpened, files_open_any, goes_on, need as need_at, opens_any, said_by, seen, waits_on_closed};
 
 use crate::preparing::prepare;
 use crate::rewriting::rewrite;
@@ -33,17 +33,12 @@ fn take_over<P: Station>(
         → AnswersOpening result (opens_any old.now (seen (P.calls station.old))) }
     ensures said { P.observed → (s : State) (used : ℕ)
         → files_open_any old.now (seen (P.calls station.old)) ≡ Ok (s, used)
-        → SaysFor result (sayings waiting new.now (need_at old.now s)) (P.calls station.old)
-        (P.calls station.new) }
+        → SaysDropped waiting old.now new.now s result (P.calls station.old) (P.calls station.new) }
     ensures silent { P.observed → (waiting ≡ Waiting.Refused) ⊎ LeavesFiles result
         → said_by (P.calls station.new) ≡ said_by (P.calls station.old) }
     ensures told { P.observed → LeavesFiles result
         → OnlySyncs (P.calls station.old) (P.calls station.new) }
-    ensures disk { IsDiskFaultOf result
-        → Rose (P.disk_faults station.old) (P.disk_faults station.new) }
-    ensures later { P.disk_faults station.old ≤ P.disk_faults station.new }
-    ensures sound { OnOk result (P.disk_faults station.new ≡ P.disk_faults station.old) }
-    ensures say { CountsSays result (P.say_faults station.old) (P.say_faults station.new) }
+    ensures counts { CountsFaults P.Station result station.old station.new }
     ensures unsaid { waiting ≡ Waiting.Refused → IsSayFaultOf result → ⊥ }
 {
     // A limit leaves few draws due.
@@ -91,17 +86,12 @@ pub fn migrate<P: Station>(
     // Once the journal was taken over, exactly the receipts of all that was dropped were said, in their order.
     ensures said { P.observed → (s : State) (used : ℕ)
         → files_open_any old.now (seen (P.calls station)) ≡ Ok (s, used)
-        → SaysFor result.1 (sayings waiting new (need_at old.now s)) (P.calls station)
-        (P.calls result.0) }
+        → SaysDropped waiting old.now new s result.1 (P.calls station) (P.calls result.0) }
     ensures silent { P.observed → (waiting ≡ Waiting.Refused) ⊎ LeavesFiles result.1
         → said_by (P.calls result.0) ≡ said_by (P.calls station) }
     ensures told { P.observed → LeavesFiles result.1 → OnlySyncs (P.calls station)
         (P.calls result.0) }
-    ensures disk { IsDiskFaultOf result.1
-        → Rose (P.disk_faults station) (P.disk_faults result.0) }
-    ensures later { P.disk_faults station ≤ P.disk_faults result.0 }
-    ensures sound { OnOk result.1 (P.disk_faults result.0 ≡ P.disk_faults station) }
-    ensures say { CountsSays result.1 (P.say_faults station) (P.say_faults result.0) }
+    ensures counts { CountsFaults P.Station result.1 station result.0 }
     ensures unsaid { waiting ≡ Waiting.Refused → IsSayFaultOf result.1 → ⊥ }
 {
     let mut station = station;

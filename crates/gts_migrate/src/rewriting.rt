@@ -1,5 +1,5 @@
-ghost use Rattle.std.specs.Prelude.{◌≡◌, ◌-◌, ◌^◌, ◌≤◌, [], min, length, IfErr, IsOk, OnOk, IsErrOf};
-ghost use Rattle.gts_migrate.specs.Cited.{CanMigrate, CountsSays, Directory as DirectoryOf, EachSince, FitsFor, IsMigrated, IsSayFaultOf, IsWriteFaultOf, OpensWithAt, Rose, SaysAll, SaysFor, StandsOn, State, checkpoint_text, need_of, on, said_by};
+ghost use Rattle.std.specs.Prelude.{◌≡◌, ◌^◌, ◌-◌, [], min, length, IfErr, IsOk, OnOk, IsErrOf};
+ghost use Rattle.gts_migrate.specs.Cited.{CanMigrate, CountsFaults, CountsSays, Directory as DirectoryOf, FitsFor, IsMigrated, IsSayFaultOf, IsWriteFaultOf, SaysAll, SaysFor, StandsOn, State, StaysWith, checkpoint_text, need_of, on, said_by};
 
 use crate::MigrateFault;
 use crate::preparing::Prepared;
@@ -7,7 +7,7 @@ use gts_checkpoint::write;
 use gts_directory::Directory;
 use gts_engine::compacted_size;
 use gts_journal::Journal;
-use gts_traits::Station;
+use gts_traits::{Channel, Station};
 use std::alloc::Global;
 
 /// Says receipts on the channel of receipts, in one call, where there are any.
@@ -22,7 +22,7 @@ fn say_receipts<P: Station>(station: &mut P, receipts: &[u8]) -> Result<(), Migr
     if receipts.is_empty() {
         return Ok(());
     }
-    match station.say(0, receipts) {
+    match station.say(Channel::OPERATOR, receipts) {
         Ok(()) => Ok(()),
         Err(_) => Err(MigrateFault::SayFault),
     }
@@ -41,10 +41,8 @@ pub(crate) fn rewrite<P: Station>(
     requires size { prepared.now.size
         ≡ min (length (checkpoint_text (need_of prepared.now.need))) (2 ^ 64 - 1) }
     requires stands { P.observed → StandsOn (P.calls station.old) journal }
-    ensures moments { P.observed → (old : DirectoryOf) (s : State)
-        → CanMigrate old new.now s (need_of prepared.now.need) (P.calls station.old) journal
-        → EachSince (P.calls station.old) (P.calls station.new)
-        (OpensWithAt (on 0 prepared.now.receipts.items) old new.now s) }
+    ensures moments { P.observed → StaysWith (on 0 prepared.now.receipts.items) new.now
+        (need_of prepared.now.need) journal (P.calls station.old) (P.calls station.new) }
     ensures written { P.observed → OnOk result ((old : DirectoryOf) (s : State)
         → CanMigrate old new.now s (need_of prepared.now.need) (P.calls station.old) journal
         → IsMigrated old new.now s (P.calls station.old) (P.calls station.new)) }
@@ -53,11 +51,7 @@ pub(crate) fn rewrite<P: Station>(
     ensures unsaid { prepared.now.receipts.items ≡ [] → IsSayFaultOf result → ⊥ }
     ensures kind { IfErr result IsWriteFaultOf }
     ensures no_memory { IsErrOf result MigrateFault.NoMemory → station.new ≡ station.old }
-    ensures disk { IsErrOf result MigrateFault.DiskFault
-        → Rose (P.disk_faults station.old) (P.disk_faults station.new) }
-    ensures later { P.disk_faults station.old ≤ P.disk_faults station.new }
-    ensures sound { OnOk result (P.disk_faults station.new ≡ P.disk_faults station.old) }
-    ensures say { CountsSays result (P.say_faults station.old) (P.say_faults station.new) }
+    ensures counts { CountsFaults P.Station result station.old station.new }
 {
     // A directory is within its bounds.
     new.bounds_hold();

@@ -1,7 +1,7 @@
 //! What a takeover would come to, tried without writing.
 
-ghost use Rattle.std.specs.Prelude.{◌≡◌, ◌≢◌, ◌≤◌, ◌∷◌, IfOk, IfErr, OnOk, IsErrOf};
-ghost use Rattle.gts_migrate.specs.Cited.{Did, HasFewDue, Holds, IsAnswer, IsTried, OnlySyncs, OpensTo, Rose, State, Syncs, TakesOver, need as need_at, opens_any, refusal, seen};
+ghost use Rattle.std.specs.Prelude.{◌≡◌, ◌≢◌, ◌∷◌, IfOk, IfErr, OnOk};
+ghost use Rattle.gts_migrate.specs.Cited.{AsksDiskOf, Did, HasFewDue, Holds, IsAnswer, IsTried, OnlySyncs, OpensTo, State, Syncs, TakesOver, need as need_at, opens_any, refusal, seen};
 
 use crate::preparing::prepare;
 use crate::{MigrateFault, Waiting};
@@ -60,11 +60,7 @@ pub fn try_over<P: Station>(
         (opens_any old.now (seen (P.calls station.old)))) }
     ensures never_older { P.observed → IfErr result (λ e. e ≢ OpenFault.OldVersion) }
     ensures told { P.observed → OnlySyncs (P.calls station.old) (P.calls station.new) }
-    ensures disk_fault { IsErrOf result OpenFault.DiskFault
-        → Rose (P.disk_faults station.old) (P.disk_faults station.new) }
-    ensures later { P.disk_faults station.old ≤ P.disk_faults station.new }
-    ensures sound { OnOk result (P.disk_faults station.new ≡ P.disk_faults station.old) }
-    ensures say { P.say_faults station.new ≡ P.say_faults station.old }
+    ensures cause { AsksDiskOf P.Station OpenFault.DiskFault result station.old station.new }
 {
     // A limit leaves few draws due.
     old.bounds_hold();

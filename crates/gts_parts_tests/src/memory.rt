@@ -3,8 +3,8 @@ ghost use Rattle.std.specs.Prelude.{◌≡◌, []};
 use crate::ports::between;
 use gts_memory::{MemLines, MemSink, MemSource, MemStation, Touched};
 use gts_traits::{
-    Failed, FreeGate, Gate, JournalFile, Line, Lines, NoMemory, Point, Sink, Source, Station,
-    cut_synced, write_synced,
+    Channel, Failed, FreeGate, Gate, JournalFile, Line, Lines, NoMemory, Point, Sink, Source,
+    Station, cut_synced, write_synced,
 };
 use std::test::Fail;
 
@@ -50,10 +50,10 @@ fn a_sink_keeps_what_is_written(rt: HostRuntime) -> Result<(), Fail> {
 /// Says pieces on two channels.
 fn say_pieces(station: &mut MemStation) -> [Result<(), Failed>; 4] {
     [
-        station.say(0, b"started"),
-        station.say(64, b"lost"),
-        station.say(64, b"ab"),
-        station.say(64, b"c"),
+        station.say(Channel::OPERATOR, b"started"),
+        station.say(Channel::of_circuit(63), b"lost"),
+        station.say(Channel::of_circuit(63), b"ab"),
+        station.say(Channel::of_circuit(63), b"c"),
     ]
 }
 
@@ -62,9 +62,9 @@ fn a_station_keeps_each_channel_apart(rt: HostRuntime) -> Result<(), Fail> {
     let mut station = MemStation::new(rt.alloc(), &[1])?;
     let answers = say_pieces(&mut station);
     assert!(rt; answers == [Ok(()), Err(Failed), Ok(()), Ok(())]);
-    assert!(rt; station.said(0) == b"started".as_slice());
-    assert!(rt; station.said(64) == b"abc".as_slice());
-    assert!(rt; station.said(1) == b"".as_slice());
+    assert!(rt; station.said(Channel::OPERATOR) == b"started".as_slice());
+    assert!(rt; station.said(Channel::of_circuit(63)) == b"abc".as_slice());
+    assert!(rt; station.said(Channel::of_circuit(0)) == b"".as_slice());
     assert!(rt; station.calls() == 4);
     Ok(())
 }
@@ -73,7 +73,7 @@ fn a_station_keeps_each_channel_apart(rt: HostRuntime) -> Result<(), Fail> {
 fn a_station_tells_what_each_call_says(rt: HostRuntime) -> Result<(), Fail> {
     let mut station = MemStation::new(rt.alloc(), &[1])?;
     let _ = say_pieces(&mut station);
-    assert!(rt; station.saying(1) == Some((64, b"ab".as_slice())));
+    assert!(rt; station.saying(1) == Some((Channel::of_circuit(63), b"ab".as_slice())));
     assert!(rt; station.saying(3).is_none());
     assert!(rt; station.starved() == 0);
     Ok(())
@@ -151,10 +151,10 @@ fn each_object_is_used_by_its_trait(rt: HostRuntime) -> Result<(), Fail> {
 fn write_over<S: Station>(station: &mut S) -> Result<(), Failed>
     requires { S.observed → S.calls station.old ≡ [] }
 {
-    station.say(0, b"one")?;
+    station.say(Channel::OPERATOR, b"one")?;
     write_synced(station, JournalFile::FIRST, 0, b"abc")?;
     station.write_at(JournalFile::FIRST, 1, b"xyz")?;
-    station.say(0, b"two")
+    station.say(Channel::OPERATOR, b"two")
 }
 
 /// Whether a crash in a call, with a choice for what was touched, leaves these bytes in the first file, and all that was said
@@ -171,7 +171,7 @@ fn is_left(
     let crashed = station.crashed(call, choice)?;
     Ok(
         crashed.file(JournalFile::FIRST) == file
-            && crashed.said(0) == b"one".as_slice()
+            && crashed.said(Channel::OPERATOR) == b"one".as_slice()
             && crashed.calls() == 0,
     )
 }

@@ -1,5 +1,5 @@
 use gts_real::{FileSource, FileStation};
-use gts_traits::{Failed, JournalFile, Source, Station};
+use gts_traits::{Channel, Failed, JournalFile, Source, Station};
 use std::fs;
 use std::test::Fail;
 
@@ -102,8 +102,8 @@ fn a_disk_that_failed_to_sync_is_not_used_again(rt: HostRuntime) -> Result<(), F
 #[test]
 fn what_is_said_on_a_channel_goes_behind_its_file(rt: HostRuntime) -> Result<(), Fail> {
     let mut station = FileStation::new(&rt);
-    assert!(rt; station.say(8, b"one ") == Ok(()));
-    assert!(rt; station.say(8, b"two") == Ok(()));
+    assert!(rt; station.say(Channel::of_circuit(7), b"one ") == Ok(()));
+    assert!(rt; station.say(Channel::of_circuit(7), b"two") == Ok(()));
     let mut source = FileSource::new(&rt, "circuit.07.out");
     let mut into = [0u8; 8];
     assert!(rt; source.read(&mut into) == Ok(7));

@@ -154,7 +154,6 @@ pub(crate) fn noted<T>(
 ) -> Result<T, Failed>
     ensures value { IfOk result (λ x. answer ≡ Ok x) }
     ensures failed { is_err result ≡ is_err answer }
-    ensures sound { OnOk result (faults.new ≡ faults.old) }
     ensures cause { HasCause result faults.old faults.new }
     ensures told { OnErr result (IsSome last.new) }
     ensures same { OnOk result (last.new ≡ last.old) }

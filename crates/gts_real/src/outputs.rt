@@ -1,9 +1,10 @@
 ghost use Rattle.std.specs.Prelude.{◌≡◌, ◌<◌, true, None, IsErr, is_err, is_some};
-ghost use Rattle.gts_alphabet.specs.declared.limits.TheConstants.{MOST_CIRCUITS, CHANNELS};
+ghost use Rattle.gts_alphabet.specs.declared.limits.TheConstants.{MOST_CIRCUITS};
 
 use crate::cause::{Act, Cause, Place, answered};
 use crate::disk::sync_folder;
 use gts_alphabet::MOST_CIRCUITS;
+use gts_traits::Channel;
 use std::fs::{File, OpenOptions};
 use std::io::{ErrorKind, Write};
 use std::rt::Files;
@@ -73,16 +74,14 @@ impl Outputs {
     pub(crate) fn write<R: Files<File = File> + Print + AllocGlobal>(
         &mut self,
         rt: &R,
-        channel: u32,
+        channel: Channel,
         bytes: &[u8],
     ) -> Result<(), Cause>
-        requires { channel < CHANNELS }
         ensures { self.new.lost ≡ self.old.lost }
     {
-        if channel == 0 {
+        let Some(circuit) = channel.circuit() else {
             return answered(rt.write_all(bytes), Place::Output, Act::Write);
-        }
-        let circuit = channel - 1;
+        };
         let place = Place::Circuit(circuit);
         self.kept[circuit as usize] = false;
         if let Some(file) = &mut self.files[circuit as usize] {

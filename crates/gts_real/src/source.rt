@@ -46,7 +46,6 @@ impl<'a, R: Files<File = File>> FileSource<'a, R> {
     /// Brings the file to the disk, where it was read: another program may have written it just before.
     pub fn keep(&mut self) -> Result<(), Failed>
         ensures cause { HasCause result self.old.faults self.new.faults }
-        ensures sound { OnOk result (self.new.faults ≡ self.old.faults) }
         ensures why { OnErr result (IsSome self.new.cause) }
     {
         let answer = match &self.file {
@@ -102,7 +101,6 @@ impl<R: Files> Source for FileSource<'_, R> {
     fn read(&mut self, into: &mut [u8]) -> Result<usize, Failed>
         ensures count { IfOk result (λ count. count ≤ length into.new) }
         ensures cause { HasCause result self.old.faults self.new.faults }
-        ensures sound { OnOk result (self.new.faults ≡ self.old.faults) }
         ensures why { OnErr result (IsSome self.new.cause) }
     {
         let answer = read_on(self.rt, self.name, &mut self.file, into);

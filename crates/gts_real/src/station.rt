@@ -1,17 +1,17 @@
 ghost use Rattle.std.specs.Prelude.{◌≡◌, ◌+◌, ◌^◌, ◌≤◌, ◌<◌, true, false, [], length, IfOk, OnOk, OnErr, IsErr, IsSome, is_err, is_some};
-ghost use Rattle.gts_real.specs.Cited.{CHANNELS, FailsWhere, HasCause, faultless};
+ghost use Rattle.gts_real.specs.Cited.{FailsWhere, HasCause, faultless};
 
 use crate::cause::{Cause, noted};
 use crate::disk::Disk;
 use crate::outputs::Outputs;
-use gts_traits::{Failed, JournalFile, Station};
+use gts_traits::{Channel, Failed, JournalFile, Station};
 use std::fs::File;
 use std::marker::Model;
 use std::rt::Files;
 
 /// The station of the program, in the current folder. Journal file k is `journal.k`; one that isn't there has size 0, and
-/// is made by its first write or cut. Channel 0 is standard output, and channel `c + 1` is appended to `circuit.NN.out`,
-/// NN being `c` in two digits. What is done with it is not observed.
+/// is made by its first write or cut. What operators read goes to standard output, and the frames of
+/// circuit `c` to the end of `circuit.NN.out`, NN being `c` in two digits. What is done with it is not observed.
 ///
 /// A station that may write takes the lock on the journal by its first call on a file, so two of them exclude one another. One
 /// that was opened for reading takes none, and may be used beside one that writes.
@@ -107,7 +107,6 @@ impl<R: Files<File = File> + Print + AllocGlobal> Station for FileStation<'_, R>
     fn size(&mut self, file: JournalFile) -> Result<u64, Failed>
         ensures cause { HasCause result self.old.disk_faults self.new.disk_faults }
         ensures why { OnErr result (IsSome self.new.disk_cause) }
-        ensures sound { OnOk result (self.new.disk_faults ≡ self.old.disk_faults) }
         ensures say { self.new.say_faults ≡ self.old.say_faults }
         ensures reader { self.new.is_reader ≡ self.old.is_reader }
         ensures lost { FailsWhere result self.old.is_lost self.new.is_lost }
@@ -124,7 +123,6 @@ impl<R: Files<File = File> + Print + AllocGlobal> Station for FileStation<'_, R>
         ensures within { IfOk result (λ n. n ≤ length into.old) }
         ensures cause { HasCause result self.old.disk_faults self.new.disk_faults }
         ensures why { OnErr result (IsSome self.new.disk_cause) }
-        ensures sound { OnOk result (self.new.disk_faults ≡ self.old.disk_faults) }
         ensures say { self.new.say_faults ≡ self.old.say_faults }
         ensures reader { self.new.is_reader ≡ self.old.is_reader }
         ensures lost { FailsWhere result self.old.is_lost self.new.is_lost }
@@ -143,7 +141,6 @@ impl<R: Files<File = File> + Print + AllocGlobal> Station for FileStation<'_, R>
         requires room { at + length bytes.now ≤ 2 ^ 40 }
         ensures cause { HasCause result self.old.disk_faults self.new.disk_faults }
         ensures why { OnErr result (IsSome self.new.disk_cause) }
-        ensures sound { OnOk result (self.new.disk_faults ≡ self.old.disk_faults) }
         ensures say { self.new.say_faults ≡ self.old.say_faults }
         ensures reader { FailsWhere result self.old.is_reader self.new.is_reader }
         ensures lost { FailsWhere result self.old.is_lost self.new.is_lost }
@@ -161,7 +158,6 @@ impl<R: Files<File = File> + Print + AllocGlobal> Station for FileStation<'_, R>
     fn cut(&mut self, file: JournalFile, size: u64) -> Result<(), Failed>
         ensures cause { HasCause result self.old.disk_faults self.new.disk_faults }
         ensures why { OnErr result (IsSome self.new.disk_cause) }
-        ensures sound { OnOk result (self.new.disk_faults ≡ self.old.disk_faults) }
         ensures say { self.new.say_faults ≡ self.old.say_faults }
         ensures reader { FailsWhere result self.old.is_reader self.new.is_reader }
         ensures lost { FailsWhere result self.old.is_lost self.new.is_lost }
@@ -179,7 +175,6 @@ impl<R: Files<File = File> + Print + AllocGlobal> Station for FileStation<'_, R>
     fn sync(&mut self) -> Result<(), Failed>
         ensures cause { HasCause result self.old.disk_faults self.new.disk_faults }
         ensures why { OnErr result (IsSome self.new.disk_cause) }
-        ensures sound { OnOk result (self.new.disk_faults ≡ self.old.disk_faults) }
         ensures say { self.new.say_faults ≡ self.old.say_faults }
         ensures reader { self.new.is_reader ≡ self.old.is_reader }
         ensures fails { self.old.is_lost ≡ true → IsErr result }
@@ -193,11 +188,9 @@ impl<R: Files<File = File> + Print + AllocGlobal> Station for FileStation<'_, R>
         )
     }
 
-    fn say(&mut self, channel: u32, bytes: &[u8]) -> Result<(), Failed>
-        requires { channel < CHANNELS }
+    fn say(&mut self, channel: Channel, bytes: &[u8]) -> Result<(), Failed>
         ensures cause { HasCause result self.old.say_faults self.new.say_faults }
         ensures why { OnErr result (IsSome self.new.say_cause) }
-        ensures sound { OnOk result (self.new.say_faults ≡ self.old.say_faults) }
         ensures disk { self.new.disk_faults ≡ self.old.disk_faults }
         ensures reader { self.new.is_reader ≡ self.old.is_reader }
         ensures lost { self.new.is_lost ≡ self.old.is_lost }
@@ -215,7 +208,6 @@ impl<R: Files<File = File> + Print + AllocGlobal> Station for FileStation<'_, R>
     fn keep(&mut self) -> Result<(), Failed>
         ensures cause { HasCause result self.old.say_faults self.new.say_faults }
         ensures why { OnErr result (IsSome self.new.say_cause) }
-        ensures sound { OnOk result (self.new.say_faults ≡ self.old.say_faults) }
         ensures disk { self.new.disk_faults ≡ self.old.disk_faults }
         ensures reader { self.new.is_reader ≡ self.old.is_reader }
         ensures lost { self.new.is_lost ≡ self.old.is_lost }

@@ -1,5 +1,5 @@
 -- What a need comes to under a directory that takes over from its own (profile).
-use Rattle.std.specs.Prelude.{◌==◌, List, [], ◌∷◌, if◌then◌else◌}
+use Rattle.std.specs.Prelude.{◌≡◌, ◌==◌, ℕ, List, [], ◌∷◌, slice_get, Some, if◌then◌else◌}
 use Rattle.gts_recovery.specs.Cited.Below.{Circuit, CircuitNeed, Directory, Need, State, begun, unused}
 
 -- What is brought along of a circuit under its old and its new row: what waits, and how many were drawn. The kept draws can be
@@ -17,3 +17,8 @@ each_brought (row ∷ old) (next ∷ new) (c ∷ cs) = brought row next c ∷ ea
 -- the state in which a need of the old directory goes on under the new one
 abbrev pub goes_over : Directory → Directory → Need → State
 goes_over new old n = begun (record n { circuits = each_brought old.circuits new.circuits n.circuits })
+
+-- the row of circuit c in one directory, and in another
+pub record AreRows (old new : Directory) (c : ℕ) (row next : Circuit) : Type 0 where
+  pub before : slice_get old.circuits c ≡ Some row
+  pub after : slice_get new.circuits c ≡ Some next

@@ -1,7 +1,7 @@
 //! What a need comes to under a directory that takes over from its own: laws, the contracts of functions with an empty body.
 
 ghost use Rattle.std.specs.Prelude.{◌≡◌, ◌<◌, [], ℕ, List, length, slice_get, Some, IsTrue};
-ghost use Rattle.gts_recovery.specs.Cited.{Bulletin, Circuit, Directory, Entry, IsHeld, IsOrdered, Knows, Need, State, TakesOver, after_all, begun, drawn, draws, due, goes_over, is_sound, need, on_circuit, restarted, waiting};
+ghost use Rattle.gts_recovery.specs.Cited.{AreRows, Bulletin, Circuit, Directory, Entry, IsHeld, IsOrdered, Knows, Need, State, TakesOver, after_all, begun, drawn, draws, due, goes_over, is_sound, need, on_circuit, restarted, waiting};
 
 /// Under a directory that takes over from its own, a sound need goes on: it begins a state that a history can have, so that its
 /// need there is sound; the state is the same where the journal was opened again before; and as many draws are due.
@@ -26,13 +26,12 @@ pub fn what_a_circuit_had_goes_on()
     ensures draws { (new old : Directory) (n : Need) (c : ℕ) → TakesOver new old
         → IsTrue (is_sound old n) → c < length old.circuits
         → draws (on_circuit (goes_over new old n) c) ≡ draws (on_circuit (begun n) c) }
-    ensures same_digits { (new old : Directory) (n : Need) (c : ℕ) (row next : Circuit) → slice_get
-        old.circuits c ≡ Some row → slice_get new.circuits c ≡ Some next → next.digits ≡ row.digits
-        → IsTrue (is_sound old n) → drawn (on_circuit (goes_over new old n) c) ≡ drawn (on_circuit
-        (begun n) c) }
-    ensures other_digits { (new old : Directory) (n : Need) (c : ℕ) (row next : Circuit) → slice_get
-        old.circuits c ≡ Some row → slice_get new.circuits c ≡ Some next → (next.digits ≡ row.digits
-        → ⊥) → IsTrue (is_sound old n) → drawn (on_circuit (goes_over new old n) c) ≡ [] }
+    ensures same_digits { (new old : Directory) (n : Need) (c : ℕ) (row next : Circuit)
+        → AreRows old new c row next → next.digits ≡ row.digits → IsTrue (is_sound old n)
+        → drawn (on_circuit (goes_over new old n) c) ≡ drawn (on_circuit (begun n) c) }
+    ensures other_digits { (new old : Directory) (n : Need) (c : ℕ) (row next : Circuit)
+        → AreRows old new c row next → (next.digits ≡ row.digits → ⊥) → IsTrue (is_sound old n)
+        → drawn (on_circuit (goes_over new old n) c) ≡ [] }
     ensures unowed { (new old : Directory) (n : Need) (c : ℕ)
         → (on_circuit (goes_over new old n) c).owed ≡ [] }
 {}

@@ -1,6 +1,6 @@
 -- A device's fault ends a run only where its count rose.
 use Rattle.std.proofs.Common.{◌≡◌, ℕ, ◌≤◌, inl, inr, Result, Err, refl, sym, subst, ◌∙◌, arith}
-use Rattle.gts_replay.specs.Cited.{Bad, HasReplayCause, HasRunCause, HasSettleCause, IsUnfailed, ReplayEnd, Rose, SourceFault, StepFault, SwitchFault, end_of}
+use Rattle.gts_replay.specs.Cited.{AreStill, Bad, HasReplayCause, HasRunCause, HasSettleCause, IsUnfailed, ReplayEnd, Rose, SourceFault, StepFault, SwitchFault, end_of}
 use Rattle.gts_event.specs.declared.fault.SwitchFault.TheVariants as switch
 use Rattle.gts_record.specs.declared.fault.OpenFault.TheVariants as opening
 use Rattle.gts_replay.specs.declared.end.ReplayEnd.TheVariants as end
@@ -12,45 +12,48 @@ rose_since a b c h r = omega (arith, h, r)
 rose_from : (a b c : ℕ) → b ≡ a → Rose b c → Rose a c
 rose_from a b c h r = omega (arith, h, r)
 
+-- what the end of a run says of the counts
+abbrev Told : ReplayEnd → (disk disk_now say say_now source source_now : ℕ) → Type 0
+Told end.Done d f s u a c = AreStill d f s u a c
+Told (end.Capture at) d f s u a c = AreStill d f s u a c
+Told end.SourceFault d f s u a c = Rose a c
+Told (end.Reopen opening.DiskFault) d f s u a c = Rose d f
+Told (end.Compaction switch.DiskFault) d f s u a c = Rose d f
+Told (end.Fault switch.DiskFault) d f s u a c = Rose d f
+Told (end.Fault switch.SayFault) d f s u a c = Rose s u
+Told _ d f s u a c = Unit {0}
+
+still : (e : ReplayEnd) (d f s u a c : ℕ) → Told e d f s u a c → IsUnfailed e → AreStill d f s u a c
+still end.Done d f s u a c told is = told
+still (end.Capture at) d f s u a c told is = told
+still _ d f s u a c told is = absurd is
+
 -- behind steps at which no count rose
 pub caused_step : {T : Type 0} (result : Result T StepFault) (fault : StepFault) (d e f s t u a b c : ℕ) → e ≡ d → t ≡ s → b ≡ a → result ≡ Err fault → HasRunCause result e f t u b c
     → HasReplayCause (end_of fault) d f s u a c
-caused_step {T} result fault d e f s t u a b c de st ab is cause = go fault (subst (λ (r : Result T StepFault). HasRunCause r e f t u b c) is cause)
+caused_step {T} result fault d e f s t u a b c de st ab is cause = record {
+  disk_later = omega (arith, de, cause.disk_later);
+  say_later = omega (arith, st, cause.say_later);
+  source_later = omega (arith, ab, cause.source_later);
+  disk_failed = λ i. behind (end.Fault switch.DiskFault) i;
+  compaction_failed = λ i. behind (end.Compaction switch.DiskFault) i;
+  reopen_failed = λ i. behind (end.Reopen opening.DiskFault) i;
+  say_failed = λ i. behind (end.Fault switch.SayFault) i;
+  source_failed = λ i. behind end.SourceFault i;
+  sound = still (end_of fault) d f s u a c (told fault (subst (λ (r : Result T StepFault). HasRunCause r e f t u b c) is cause));
+}
   where
-    disk : d ≤ f
-    disk = omega (arith, de, cause.disk_later)
+    told : (x : StepFault) → HasRunCause {T = T} (Err x) e f t u b c → Told (end_of x) d f s u a c
+    told (step.Capture (Bad at)) w = let i = w.bad at refl in (i.0 ∙ de, i.1 ∙ st, i.2 ∙ ab)
+    told (step.Capture SourceFault) w = rose_from a b c ab (w.source_failed refl)
+    told (step.Reopen opening.DiskFault) w = rose_from d e f de (w.reopen_failed refl)
+    told (step.Compaction switch.DiskFault) w = rose_from d e f de (w.compaction_failed refl)
+    told (step.Switch switch.DiskFault) w = rose_from d e f de (w.disk_failed refl)
+    told (step.Switch switch.SayFault) w = rose_from s t u st (w.say_failed refl)
+    told _ w = tt
 
-    say : s ≤ u
-    say = omega (arith, st, cause.say_later)
-
-    source : a ≤ c
-    source = omega (arith, ab, cause.source_later)
-
-    none : (x : StepFault) → (end_of x ≡ end.Fault switch.DiskFault → Rose d f) → (end_of x ≡ end.Compaction switch.DiskFault → Rose d f) → (end_of x ≡ end.Reopen opening.DiskFault → Rose d f) → (end_of x ≡ end.Fault switch.SayFault → Rose s u)
-        → (end_of x ≡ end.SourceFault → Rose a c) → (IsUnfailed (end_of x) → (f ≡ d) × (u ≡ s) × (c ≡ a)) → HasReplayCause (end_of x) d f s u a c
-    none x i k j l m n = record { disk_later = disk; say_later = say; source_later = source; disk_failed = i; compaction_failed = k; reopen_failed = j; say_failed = l; source_failed = m; sound = n }
-
-    go : (x : StepFault) → HasRunCause {T = T} (Err x) e f t u b c → HasReplayCause (end_of x) d f s u a c
-    go (step.Capture (Bad at)) w = none (step.Capture (Bad at)) (λ x. absurd (cc)) (λ x. absurd (cc)) (λ x. absurd (cc)) (λ x. absurd (cc)) (λ x. absurd (cc)) (λ _. let i = w.bad at refl in (i.0 ∙ de, i.1 ∙ st, i.2 ∙ ab))
-    go (step.Capture SourceFault) w = none (step.Capture SourceFault) (λ x. absurd (cc)) (λ x. absurd (cc)) (λ x. absurd (cc)) (λ x. absurd (cc)) (λ x. rose_from a b c ab (w.source_failed refl)) (λ u. absurd u)
-    go (step.Reopen opening.NoJournal) w = none (step.Reopen opening.NoJournal) (λ x. absurd (cc)) (λ x. absurd (cc)) (λ x. absurd (cc)) (λ x. absurd (cc)) (λ x. absurd (cc)) (λ u. absurd u)
-    go (step.Reopen opening.OldVersion) w = none (step.Reopen opening.OldVersion) (λ x. absurd (cc)) (λ x. absurd (cc)) (λ x. absurd (cc)) (λ x. absurd (cc)) (λ x. absurd (cc)) (λ u. absurd u)
-    go (step.Reopen (opening.NotThis want found)) w = none (step.Reopen (opening.NotThis want found)) (λ x. absurd (cc)) (λ x. absurd (cc)) (λ x. absurd (cc)) (λ x. absurd (cc)) (λ x. absurd (cc)) (λ u. absurd u)
-    go (step.Reopen (opening.Damaged file at)) w = none (step.Reopen (opening.Damaged file at)) (λ x. absurd (cc)) (λ x. absurd (cc)) (λ x. absurd (cc)) (λ x. absurd (cc)) (λ x. absurd (cc)) (λ u. absurd u)
-    go (step.Reopen opening.DiskFault) w = none (step.Reopen opening.DiskFault) (λ x. absurd (cc)) (λ x. absurd (cc)) (λ x. rose_from d e f de (w.reopen_failed refl)) (λ x. absurd (cc)) (λ x. absurd (cc)) (λ u. absurd u)
-    go (step.Reopen opening.NoMemory) w = none (step.Reopen opening.NoMemory) (λ x. absurd (cc)) (λ x. absurd (cc)) (λ x. absurd (cc)) (λ x. absurd (cc)) (λ x. absurd (cc)) (λ u. absurd u)
-    go (step.Compaction switch.DiskFault) w = none (step.Compaction switch.DiskFault) (λ x. absurd (cc)) (λ x. rose_from d e f de (w.compaction_failed refl)) (λ x. absurd (cc)) (λ x. absurd (cc)) (λ x. absurd (cc)) (λ u. absurd u)
-    go (step.Compaction switch.SayFault) w = none (step.Compaction switch.SayFault) (λ x. absurd (cc)) (λ x. absurd (cc)) (λ x. absurd (cc)) (λ x. absurd (cc)) (λ x. absurd (cc)) (λ u. absurd u)
-    go (step.Compaction (switch.Full used need limit)) w = none (step.Compaction (switch.Full used need limit)) (λ x. absurd (cc)) (λ x. absurd (cc)) (λ x. absurd (cc)) (λ x. absurd (cc)) (λ x. absurd (cc)) (λ u. absurd u)
-    go (step.Compaction (switch.Stopped by)) w = none (step.Compaction (switch.Stopped by)) (λ x. absurd (cc)) (λ x. absurd (cc)) (λ x. absurd (cc)) (λ x. absurd (cc)) (λ x. absurd (cc)) (λ u. absurd u)
-    go (step.Compaction switch.Spent) w = none (step.Compaction switch.Spent) (λ x. absurd (cc)) (λ x. absurd (cc)) (λ x. absurd (cc)) (λ x. absurd (cc)) (λ x. absurd (cc)) (λ u. absurd u)
-    go (step.Compaction switch.NoMemory) w = none (step.Compaction switch.NoMemory) (λ x. absurd (cc)) (λ x. absurd (cc)) (λ x. absurd (cc)) (λ x. absurd (cc)) (λ x. absurd (cc)) (λ u. absurd u)
-    go (step.Switch switch.DiskFault) w = none (step.Switch switch.DiskFault) (λ x. rose_from d e f de (w.disk_failed refl)) (λ x. absurd (cc)) (λ x. absurd (cc)) (λ x. absurd (cc)) (λ x. absurd (cc)) (λ u. absurd u)
-    go (step.Switch switch.SayFault) w = none (step.Switch switch.SayFault) (λ x. absurd (cc)) (λ x. absurd (cc)) (λ x. absurd (cc)) (λ x. rose_from s t u st (w.say_failed refl)) (λ x. absurd (cc)) (λ u. absurd u)
-    go (step.Switch (switch.Full used need limit)) w = none (step.Switch (switch.Full used need limit)) (λ x. absurd (cc)) (λ x. absurd (cc)) (λ x. absurd (cc)) (λ x. absurd (cc)) (λ x. absurd (cc)) (λ u. absurd u)
-    go (step.Switch (switch.Stopped by)) w = none (step.Switch (switch.Stopped by)) (λ x. absurd (cc)) (λ x. absurd (cc)) (λ x. absurd (cc)) (λ x. absurd (cc)) (λ x. absurd (cc)) (λ u. absurd u)
-    go (step.Switch switch.Spent) w = none (step.Switch switch.Spent) (λ x. absurd (cc)) (λ x. absurd (cc)) (λ x. absurd (cc)) (λ x. absurd (cc)) (λ x. absurd (cc)) (λ u. absurd u)
-    go (step.Switch switch.NoMemory) w = none (step.Switch switch.NoMemory) (λ x. absurd (cc)) (λ x. absurd (cc)) (λ x. absurd (cc)) (λ x. absurd (cc)) (λ x. absurd (cc)) (λ u. absurd u)
+    behind : (x : ReplayEnd) → end_of fault ≡ x → Told x d f s u a c
+    behind x i = subst (λ (y : ReplayEnd). Told y d f s u a c) i (told fault (subst (λ (r : Result T StepFault). HasRunCause r e f t u b c) is cause))
 
 rose_until : (a b c : ℕ) → b ≤ c → Rose a b → Rose a c
 rose_until a b c h r = omega (arith, h, r)

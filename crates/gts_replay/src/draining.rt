@@ -1,5 +1,5 @@
 ghost use Rattle.std.specs.Prelude.{◌≡◌, ◌<◌, ◌^◌, ◌↔◌, ℕ, List, length, IsTrue};
-ghost use Rattle.gts_replay.specs.Cited.{Entry, Goes, HasCallCause, StandsFor, all_done, state_at, takes_of_drain};
+ghost use Rattle.gts_replay.specs.Cited.{CountsCall, Entry, Goes, StandsFor, all_done, state_at, takes_of_drain};
 
 use gts_calls::Switch;
 use gts_event::{Outcome, SwitchFault};
@@ -16,8 +16,7 @@ pub(crate) fn drain<W: Switch>(
         → StandsFor W.meanings o first h switch.old → Goes W.meanings o first h
         (all_done (takes_of_drain (state_at W.meanings switch.old o h) c)) result switch.new }
     ensures directory { W.meanings.directory switch.new ≡ W.meanings.directory switch.old }
-    ensures cause { HasCallCause result (W.disk_faults switch.old) (W.disk_faults switch.new)
-        (W.say_faults switch.old) (W.say_faults switch.new) }
+    ensures cause { CountsCall W.Switch result switch.old switch.new }
 {
     for _ in 0..u128::MAX {
         let outcome = switch.take(c, out)?;

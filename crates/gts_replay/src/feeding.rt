@@ -1,5 +1,5 @@
 ghost use Rattle.std.specs.Prelude.{◌≡◌, ◌<◌, ◌++◌, ℕ, List, length, OnOk};
-ghost use Rattle.gts_replay.specs.Cited.{Entry, Feeds, Goes, HasCallCause, HasRunCause, Stands, all_done, events_added, held_in};
+ghost use Rattle.gts_replay.specs.Cited.{CountsCall, CountsStep, Entry, Feeds, Goes, Stands, all_done, events_added, held_in};
 
 use crate::Steps;
 use crate::fault::StepFault;
@@ -9,8 +9,10 @@ use gts_frame::Decoder;
 use gts_traits::Source;
 use std::alloc::Global;
 
-/// A feed: its bytes come on a circuit, piece by piece, until all came that its head announced. A piece is as long as
-/// `piece` at most.
+/// How many bytes of a feed are taken at once.
+const PIECE: usize = 4_096;
+
+/// A feed: its bytes come on a circuit, piece by piece, until all came that its head announced.
 pub(crate) fn feed<W: Switch, S: Source>(
     alloc: Global,
     switch: &mut W,
@@ -18,19 +20,19 @@ pub(crate) fn feed<W: Switch, S: Source>(
     decoder: &mut Decoder,
     steps: &mut Steps,
     capture: &mut S,
-    piece: &mut [u8],
 ) -> Result<(), StepFault>
     requires circuit { c < length (W.meanings.directory switch.old).circuits }
-    requires piece { 0 < length piece.old }
     ensures feeds { Feeds W.meanings S.observed c result steps.old steps.new (S.left capture.old)
         (S.left capture.new) decoder.old decoder.new switch.old switch.new }
     ensures directory { W.meanings.directory switch.new ≡ W.meanings.directory switch.old }
-    ensures cause { HasRunCause result (W.disk_faults switch.old) (W.disk_faults switch.new)
-        (W.say_faults switch.old) (W.say_faults switch.new)
-        (S.faults capture.old) (S.faults capture.new) }
+    ensures cause { CountsStep W.Switch S.Source result switch.old switch.new
+        capture.old capture.new }
 {
+    let mut piece = [0; PIECE];
     loop {
-        let count = steps.bytes(capture, piece).map_err(StepFault::Capture)?;
+        let count = steps
+            .bytes(capture, &mut piece)
+            .map_err(StepFault::Capture)?;
         if count == 0 {
             return Ok(());
         }
@@ -53,8 +55,7 @@ fn feed_piece<W: Switch>(
     ensures held { (before : List ℕ) → decoder.old.held ≡ held_in before
         → OnOk result (decoder.new.held ≡ held_in (before ++ piece.now)) }
     ensures directory { W.meanings.directory switch.new ≡ W.meanings.directory switch.old }
-    ensures cause { HasCallCause result (W.disk_faults switch.old) (W.disk_faults switch.new)
-        (W.say_faults switch.old) (W.say_faults switch.new) }
+    ensures cause { CountsCall W.Switch result switch.old switch.new }
 {
     let mut rest = piece;
     while !rest.is_empty() {

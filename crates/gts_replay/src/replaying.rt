@@ -1,5 +1,5 @@
-ghost use Rattle.std.specs.Prelude.{◌≡◌, ◌<◌, ◌≤◌, List, length};
-ghost use Rattle.gts_replay.specs.Cited.{Decode, DoesStep, Ends, EndsSettled, Entry, HasReplayCause, HasRunCause, HasSettleCause, IsHeadIn, SettlesBehind, StandsFor, at_start, bytes_announced, no_bytes};
+ghost use Rattle.std.specs.Prelude.{◌≡◌, ◌≤◌, length};
+ghost use Rattle.gts_replay.specs.Cited.{CountsRun, CountsSettling, CountsStep, Decode, DoesStep, EndsRun, EndsUnsettled, IsHeadIn, SettlesBehind, at_start, bytes_announced, no_bytes};
 ghost use Rattle.gts_replay.specs.Heads.{head_of};
 
 use crate::decoders::{new_decoders, reopen_all};
@@ -14,26 +14,21 @@ use gts_frame::{Decoder, FrameBuf};
 use gts_traits::Source;
 use std::alloc::Global;
 
-/// How many bytes of a feed are taken at once.
-const PIECE: usize = 4_096;
-
 /// Runs a capture of this kind through a switch, up to its end or the first fault: bytes that come are heard frame by frame,
 /// each circuit over a connection of its own; takes, drains, restarts and compactions are the switch's. What feeds, takes and
-/// drains do may be gathered; it is settled before the journal is opened again or compacted, and at the end. Decoders, the
-/// room for a frame and that for a piece of a feed are made before the first step.
+/// drains do may be gathered; it is settled before the journal is opened again or compacted, and at the end. Decoders
+/// and the room for a frame are made before the first step.
 pub fn replay<W: Switch, S: Source>(
     alloc: Global,
     switch: &mut W,
     capture: &mut S,
     kind: CaptureKind,
 ) -> ReplayEnd
-    ensures ends { (o : W.Origin) (h : List Entry)
-        → StandsFor W.meanings o (length h) h switch.old → Ends W.meanings W.observed kind o h
-        S.observed result switch.old switch.new (S.left capture.old) (S.left capture.new) }
+    ensures ends { EndsRun W.Switch S.Source kind result switch.old switch.new
+        capture.old capture.new }
     ensures directory { W.meanings.directory switch.new ≡ W.meanings.directory switch.old }
-    ensures cause { HasReplayCause result (W.disk_faults switch.old) (W.disk_faults switch.new)
-        (W.say_faults switch.old) (W.say_faults switch.new)
-        (S.faults capture.old) (S.faults capture.new) }
+    ensures cause { CountsRun W.Switch S.Source result switch.old switch.new
+        capture.old capture.new }
 {
     let circuits = switch.circuits();
     let Ok(mut decoders) = new_decoders(alloc, circuits) else {
@@ -42,17 +37,8 @@ pub fn replay<W: Switch, S: Source>(
     let Ok(mut out) = FrameBuf::new(alloc) else {
         return ReplayEnd::NoMemory;
     };
-    let mut piece = [0; PIECE];
     let mut steps = Steps::new(circuits, kind);
-    let end = run(
-        alloc,
-        switch,
-        capture,
-        &mut steps,
-        &mut decoders,
-        &mut out,
-        &mut piece,
-    );
+    let end = run(alloc, switch, capture, &mut steps, &mut decoders, &mut out);
     settle_behind(switch, end)
 }
 
@@ -60,8 +46,7 @@ pub fn replay<W: Switch, S: Source>(
 fn settle_behind<W: Switch>(switch: &mut W, end: ReplayEnd) -> ReplayEnd
     ensures settles { SettlesBehind W.meanings end result switch.old switch.new }
     ensures directory { W.meanings.directory switch.new ≡ W.meanings.directory switch.old }
-    ensures cause { HasSettleCause end result (W.disk_faults switch.old)
-        (W.disk_faults switch.new) (W.say_faults switch.old) (W.say_faults switch.new) }
+    ensures cause { CountsSettling W.Switch end result switch.old switch.new }
 {
     match end {
         ReplayEnd::Done | ReplayEnd::Capture { .. } | ReplayEnd::SourceFault => {
@@ -82,21 +67,16 @@ fn run<W: Switch, S: Source>(
     steps: &mut Steps,
     decoders: &mut [Decoder],
     out: &mut FrameBuf,
-    piece: &mut [u8],
 ) -> ReplayEnd
     requires begins { steps.old
         ≡ at_start (length (W.meanings.directory switch.old).circuits) steps.old.kind }
     requires few { length (W.meanings.directory switch.old).circuits ≤ 100 }
-    requires piece { 0 < length piece.old }
     requires decode { Decode decoders.old (no_bytes (W.meanings.directory switch.old)) }
-    ensures ends { (o : W.Origin) (h : List Entry) → StandsFor W.meanings o (length h) h switch.old
-        → EndsSettled W.meanings W.observed steps.old.kind o h S.observed result switch.old
-        switch.new
-        (S.left capture.old) (S.left capture.new) }
+    ensures ends { EndsUnsettled W.Switch S.Source steps.old.kind result switch.old switch.new
+        capture.old capture.new }
     ensures directory { W.meanings.directory switch.new ≡ W.meanings.directory switch.old }
-    ensures cause { HasReplayCause result (W.disk_faults switch.old) (W.disk_faults switch.new)
-        (W.say_faults switch.old) (W.say_faults switch.new)
-        (S.faults capture.old) (S.faults capture.new) }
+    ensures cause { CountsRun W.Switch S.Source result switch.old switch.new
+        capture.old capture.new }
 {
     for _ in 0..u64::MAX {
         let head = match steps.next(capture) {
@@ -104,7 +84,7 @@ fn run<W: Switch, S: Source>(
             Ok(head) => head,
             Err(fault) => return end_after(StepFault::Capture(fault)),
         };
-        if let Err(fault) = do_step(alloc, switch, capture, steps, decoders, out, piece, head) {
+        if let Err(fault) = do_step(alloc, switch, capture, steps, decoders, out, head) {
             return end_after(fault);
         }
     }
@@ -120,27 +100,24 @@ fn do_step<W: Switch, S: Source>(
     steps: &mut Steps,
     decoders: &mut [Decoder],
     out: &mut FrameBuf,
-    piece: &mut [u8],
     head: Head,
 ) -> Result<(), StepFault>
     requires valid { let d = W.meanings.directory switch.old in
         IsHeadIn (length d.circuits) steps.old.kind (head_of head) }
     requires some { head ≡ Head.End → ⊥ }
-    requires piece { 0 < length piece.old }
     requires feed { steps.old.feed ≡ bytes_announced (head_of head) }
     requires decoders { length decoders.old ≡ length (W.meanings.directory switch.old).circuits }
     ensures does { DoesStep W.meanings W.observed S.observed
         (head_of head) result steps.old steps.new
         (S.left capture.old) (S.left capture.new) decoders.old decoders.new switch.old switch.new }
     ensures directory { W.meanings.directory switch.new ≡ W.meanings.directory switch.old }
-    ensures cause { HasRunCause result (W.disk_faults switch.old) (W.disk_faults switch.new)
-        (W.say_faults switch.old) (W.say_faults switch.new)
-        (S.faults capture.old) (S.faults capture.new) }
+    ensures cause { CountsStep W.Switch S.Source result switch.old switch.new
+        capture.old capture.new }
 {
     match head {
         Head::Feed { c, .. } => {
             let decoder = &mut decoders[c as usize];
-            return feed(alloc, switch, c, decoder, steps, capture, piece);
+            return feed(alloc, switch, c, decoder, steps, capture);
         }
         Head::Take { c } => {
             if let Err(fault) = switch.take(c, out) {

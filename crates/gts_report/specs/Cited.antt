@@ -5,5 +5,5 @@ unfoldable pub use Rattle.gts_report.specs.Sets.{is_set}
 pub use Rattle.gts_report.specs.Report.{circuit_line, circuit_lines, report}
 pub use Rattle.gts_report.specs.Noted.{HasSeen, entry_of}
 pub use Rattle.gts_report.specs.Changes.{all_circuit_lines, behind, beside_rules, both_rule_lines, changes, duplicates_line, has_rule, known, name_text, names_text, need_of_circuit, refused_line, row_of, rule_change, rule_lines, same_rule, stays_lines, word_line}
-pub use Rattle.gts_report.specs.Kept.{kept_under}
+pub use Rattle.gts_report.specs.Kept.{TellsStaying, kept_under}
 unfoldable pub use Below.*

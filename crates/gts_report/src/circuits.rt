@@ -1,7 +1,7 @@
 //! What changes for each circuit.
 
 ghost use Rattle.std.specs.Prelude.{◌≡◌, ◌-◌, ◌<◌, ℕ, List, length, IfOk, IsTrue};
-ghost use Rattle.gts_report.specs.Cited.{CircuitNeed as CircuitNeedOf, TakesOver, circuit_need_of, circuit_of_row, is_sound, kept_under, last_of, need_of, waits_closed};
+ghost use Rattle.gts_report.specs.Cited.{TellsStaying, circuit_need_of, circuit_of_row, is_sound, kept_under, last_of, need_of, waits_closed};
 ghost use Rattle.gts_report.specs.Changes as changes;
 
 use crate::ReportText;
@@ -57,10 +57,7 @@ fn stays_lines(
     new: &CircuitRow,
     circuit: &CircuitNeed,
 ) -> Result<ReportText, NoMemory>
-    ensures { IfOk result (λ lines. (behind : CircuitNeedOf)
-        → behind.kept ≡ last_of new.now.kept (kept_under old.now new.now circuit.now)
-        → lines ≡ changes.stays_lines c (circuit_of_row old.now) (circuit_of_row new.now)
-        (circuit_need_of circuit.now) behind) }
+    ensures { IfOk result (TellsStaying c old.now new.now circuit.now) }
 {
     let name = unpadded(&new.name);
     let mut lines = closed_line(alloc, c, name, old.closed, new.closed)?;

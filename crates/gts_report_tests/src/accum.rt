@@ -1,7 +1,7 @@
 use gts_accum::{PackEnd, Unpacked, pack};
 use gts_memory::{MemSource, MemStation};
 use gts_parts_tests::is_same;
-use gts_traits::Source;
+use gts_traits::{Channel, Source};
 use std::alloc::Global;
 use std::test::Fail;
 
@@ -85,7 +85,7 @@ fn is_packed(
     said: &[u8],
 ) -> Result<bool, Fail> {
     let (end, station) = packed(alloc, stream, calls)?;
-    Ok(end == wanted && is_same(station.said(0), said))
+    Ok(end == wanted && is_same(station.said(Channel::OPERATOR), said))
 }
 
 #[test]

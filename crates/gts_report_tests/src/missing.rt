@@ -3,7 +3,7 @@ use gts_dirfile::read_directory;
 use gts_gap::{GapsEnd, Moment, gaps};
 use gts_memory::{MemSource, MemStation};
 use gts_parts_tests::is_same;
-use gts_traits::Station;
+use gts_traits::{Channel, Station};
 use std::alloc::Global;
 use std::test::Fail;
 
@@ -51,8 +51,8 @@ fn named(alloc: Global, calls: &[u64]) -> Result<(GapsEnd, MemStation), Fail> {
 fn what_is_missing_is_said_and_asked_for(rt: HostRuntime) -> Result<(), Fail> {
     let (end, station) = named(rt.alloc(), &[])?;
     assert!(rt; end == GapsEnd::Done);
-    assert!(rt; is_same(station.said(0), b"gap 00 004\nend\n"));
-    assert!(rt; is_same(station.said(1), REQUEST));
+    assert!(rt; is_same(station.said(Channel::OPERATOR), b"gap 00 004\nend\n"));
+    assert!(rt; is_same(station.said(Channel::of_circuit(0)), REQUEST));
     let (end, _) = named(rt.alloc(), &[1])?;
     assert!(rt; end == GapsEnd::SayFault);
     Ok(())

@@ -2,7 +2,7 @@ use gts_directory::Directory;
 use gts_memory::{MemSource, MemStation, Touched};
 use gts_parts_tests::{is_same, two_circuits};
 use gts_standby::{FollowEnd, ShipFault, follow, ship};
-use gts_traits::{JournalFile, Station};
+use gts_traits::{Channel, JournalFile, Station};
 use std::alloc::Global;
 use std::process::Abort;
 use std::test::Fail;
@@ -88,7 +88,7 @@ fn the_header_and_each_record_with_its_seal_are_shipped(rt: HostRuntime) -> Resu
     let mut station = station_of(rt.alloc(), BOTH)?;
     assert!(rt; shipped(rt.alloc(), &mut station)? == Ok(()));
     let feed = feed_of_both(rt.alloc())?;
-    assert!(rt; feed.len() == 172 && is_same(station.said(0), &feed));
+    assert!(rt; feed.len() == 172 && is_same(station.said(Channel::OPERATOR), &feed));
     Ok(())
 }
 
@@ -233,7 +233,7 @@ fn has_none_or_all<R: AllocGlobal + Abort>(
     for choice in CHOICES {
         let mut left = left_by(standby, call, choice)?;
         assert!(rt; shipped(rt.alloc(), &mut left)? == Ok(()));
-        let size = left.said(0).len();
+        let size = left.said(Channel::OPERATOR).len();
         assert!(rt; size == 40 || size == feed.len(), "call {call}");
     }
     Ok(())

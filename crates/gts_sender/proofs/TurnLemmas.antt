@@ -1,5 +1,5 @@
 -- The takes of one turn, and the frames that they gave.
-use Rattle.std.proofs.Common.{◌≡◌, ◌⊎◌, ℕ, zero, suc, ◌+◌, List, [], ◌∷◌, ◌++◌, length, Some, None, inl, inr, refl, sym, ap, ◌∙◌, add-one, replicate}
+use Rattle.std.proofs.Common.{◌≡◌, ℕ, zero, suc, ◌+◌, List, [], ◌∷◌, ◌++◌, length, Some, None, refl, sym, ap, ◌∙◌, add-one, replicate}
 use Rattle.std.proofs.lemmas.List.{append-nil, map-append, replicate-append-replicate}
 use Rattle.gts_sender.specs.Cited.{Accepted, Asked, Choice, Directory, Done, Draw, Draws, Duplicate, Entry, Frame, Gave, GaveAll, GaveNoMore, LineLost, Nothing, Nothing_waits, Outcome, Refused, Repeats, Resend, State, Taken, after, after_all, after_takes, choice, frame_of, frame_of_draw, frame_of_outcome, frames, given_index, outcome, takes, texts, under}
 use Rattle.gts_event.proofs.LawLemmas.{after_all-append}

@@ -1,6 +1,6 @@
 -- What a sender adds at its desk, and what it writes.
-use Rattle.std.specs.Prelude.{◌≡◌, ℕ, ◌≤◌, Bool, true, false, List, [], ◌∷◌, ◌++◌, replicate, Option, Some, None, Result, Ok, Err}
-use Rattle.gts_sender.specs.Cited.Below.{Answers, DiskFault, Done, Doubt, Entry, Frame, GoesOn, IsFront, LeavesFrame, NoMemory, Nothing, Outcome, SayFault, Seen, Spent, SwitchFault, Taken, after, begun, entry_of, frame_of_draw, frames, given_index, most_beside, outcome, own, own_frames, state_at, takes, under}
+use Rattle.std.specs.Prelude.{◌≡◌, ℕ, ◌≤◌, Bool, true, false, List, [], ◌∷◌, ◌++◌, replicate, Some, None, Result, Ok, Err, OnOk, IfErr}
+use Rattle.gts_sender.specs.Cited.Below.{Answers, DiskFault, Done, Doubt, Entry, Frame, GoesOn, IsFront, LeavesFrame, NoMemory, Nothing, Outcome, Rose, SayFault, Seen, SinkMeanings, Spent, SwitchFault, Taken, after, begun, entry_of, frame_of_draw, frames, given_index, most_beside, outcome, own, own_frames, state_at, takes, under}
 use Rattle.gts_sender.specs.declared.end.SendEnd.{SendEnd}
 use Rattle.gts_sender.specs.declared.end.SendEnd.TheVariants.{Quiet, LineFault, Fault}
 
@@ -99,6 +99,24 @@ abbrev pub LineStood : SendEnd → Type 0
 LineStood Quiet = Unit {0}
 LineStood (LineFault index) = ⊥
 LineStood (Fault fault) = Unit {0}
+
+-- the sink took these bytes
+abbrev pub SinkTook : {K : Type 0} → SinkMeanings K → (old new : K) → List ℕ → Type 0
+SinkTook sink old new bytes = sink.observed → sink.written new ≡ sink.written old ++ bytes
+
+-- The count of a sink's failures over what a sender did that ended so: it never falls, it rose where the line failed, and it is as it was
+-- where that stood.
+pub record HasLineCause {K : Type 0} (sink : SinkMeanings K) (end : SendEnd) (old new : K) : Type 0 where
+  pub later : sink.faults old ≤ sink.faults new
+  pub failed : (index : ℕ) → end ≡ LineFault index → Rose (sink.faults old) (sink.faults new)
+  pub sound : LineStood end → sink.faults new ≡ sink.faults old
+
+-- the same over a call that may not be its end
+pub record HasSendCause {T K : Type 0} (sink : SinkMeanings K) (result : Result T SendEnd) (old new : K) : Type 0 where
+  pub later : sink.faults old ≤ sink.faults new
+  pub failed : (index : ℕ) → result ≡ Err (LineFault index) → Rose (sink.faults old) (sink.faults new)
+  pub sound : OnOk result (sink.faults new ≡ sink.faults old)
+  pub stood : IfErr result (λ end. LineStood end → sink.faults new ≡ sink.faults old)
 
 -- what one turn sends: frames, behind which there may be more; or there was nothing more to send
 abbrev pub Tried : ℕ → Seen → Seen → List ℕ → Result Bool SendEnd → Type 0

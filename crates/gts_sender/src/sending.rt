@@ -1,5 +1,5 @@
-ghost use Rattle.std.specs.Prelude.{◌≡◌, ℕ, ◌<◌, ◌≤◌, List, ◌++◌, length, Err, OnOk, IfErr};
-ghost use Rattle.gts_sender.specs.Cited.{LineStood, Rose, Sends, SendsMore, WroteGiven, given_index};
+ghost use Rattle.std.specs.Prelude.{◌≡◌, ℕ, ◌<◌, List, length};
+ghost use Rattle.gts_sender.specs.Cited.{HasLineCause, HasSendCause, Sends, SendsMore, SinkTook, WroteGiven, given_index};
 
 use crate::SendEnd;
 use crate::writing::{write_all, write_frames};
@@ -24,11 +24,8 @@ pub fn send<R: Wait, D: Desk, K: Sink, G: Gate>(
 ) -> SendEnd
     requires { c < length (D.seen desk.old).directory.circuits }
     ensures sent { (bytes : List ℕ) × Sends c (D.seen desk.old) (D.seen desk.new) bytes result
-        × (K.observed → K.written sink.new ≡ K.written sink.old ++ bytes) }
-    ensures later { K.faults sink.old ≤ K.faults sink.new }
-    ensures fault { (index : ℕ) → result ≡ SendEnd.LineFault index
-        → Rose (K.faults sink.old) (K.faults sink.new) }
-    ensures sound { LineStood result → K.faults sink.new ≡ K.faults sink.old }
+        × SinkTook K.Sink sink.old sink.new bytes }
+    ensures cause { HasLineCause K.Sink result sink.old sink.new }
 {
     for _ in rt.forever() {
         let seen = bell.look();
@@ -69,13 +66,8 @@ fn send_some<D: Desk, K: Sink, G: Gate>(
     ensures directory { (D.seen desk.new).directory ≡ (D.seen desk.old).directory }
     ensures tried { (bytes : List ℕ)
         × SendsMore c (D.seen desk.old) (D.seen desk.new) bytes result
-        × (K.observed → K.written sink.new ≡ K.written sink.old ++ bytes) }
-    ensures later { K.faults sink.old ≤ K.faults sink.new }
-    ensures fault { (index : ℕ) → result ≡ Err (SendEnd.LineFault index)
-        → Rose (K.faults sink.old) (K.faults sink.new) }
-    ensures sound { OnOk result (K.faults sink.new ≡ K.faults sink.old) }
-    ensures stood { IfErr result (λ end. LineStood end
-        → K.faults sink.new ≡ K.faults sink.old) }
+        × SinkTook K.Sink sink.old sink.new bytes }
+    ensures cause { HasSendCause K.Sink result sink.old sink.new }
 {
     gate.at(Point::Take { c });
     let more = desk.take_some(c, given)?;
@@ -94,13 +86,8 @@ fn pass_sent<G: Gate>(c: u32, frames: &Frames, gate: &G) {
 /// Writes the frame that a take with this outcome left in `out`. False where it gave none.
 pub fn write_given<K: Sink>(outcome: Outcome, sink: &mut K, out: &FrameBuf) -> Result<bool, SendEnd>
     ensures wrote { (bytes : List ℕ) × WroteGiven outcome out.now bytes result
-        × (K.observed → K.written sink.new ≡ K.written sink.old ++ bytes) }
-    ensures later { K.faults sink.old ≤ K.faults sink.new }
-    ensures fault { (index : ℕ) → result ≡ Err (SendEnd.LineFault index)
-        → Rose (K.faults sink.old) (K.faults sink.new) }
-    ensures sound { OnOk result (K.faults sink.new ≡ K.faults sink.old) }
-    ensures stood { IfErr result (λ end. LineStood end
-        → K.faults sink.new ≡ K.faults sink.old) }
+        × SinkTook K.Sink sink.old sink.new bytes }
+    ensures cause { HasSendCause K.Sink result sink.old sink.new }
 {
     let Some(index) = index_of(outcome) else {
         return Ok(false);

@@ -15,7 +15,7 @@ pub use Rattle.gts_standby.specs.Beginning.{BeforeIt, BeginsAny, EndsBegin, HasB
 pub use Rattle.gts_standby.specs.Whole.{FindsFurther, HasTaken, IsNamedEnd, IsTakenEnd, IsWhole, StaysWhole, TakesCheckpoint, TakesFirst, TakesOther, TakesRecords}
 pub use Rattle.gts_standby.specs.Fronts.{AddsFront, AddsNothing, AddsPart, FeedBrings, HasNoRecord, HasPlainPart, IsFeedOf, IsOvertaken, IsPlainFeed, LeadsTo, nothing_read, state_of}
 pub use Rattle.gts_standby.specs.Between.{AreOneBySeal, IsFoundBehind, StandsFed, records_fed, seal_behind}
-pub use Rattle.gts_standby.specs.Counts.{GoesOn, HasEndCounts, IsStill, KeepsAllCounts, KeepsCounts, PassesNext}
+pub use Rattle.gts_standby.specs.Counts.{AsksBoth, AsksFeed, AsksToShip, GoesOn, HasDiskCounts, HasEndCounts, IsStill, PassesNext}
 pub use Rattle.gts_standby.specs.declared.end.FollowEnd.{FollowEnd}
 pub use Rattle.gts_standby.specs.declared.end.FollowEnd.TheVariants.{DiskFault, Diverged, Done, Feed, NoMemory, Open, SourceFault}
 pub use Rattle.gts_standby.specs.declared.fault.ShipFault.{ShipFault}

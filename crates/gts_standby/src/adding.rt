@@ -29,9 +29,8 @@ pub(crate) fn add_all<P: Station, S: Source>(
         (P.calls station.new) (S.left source.new) }
     ensures kind { IsAddEnd result }
     ensures silent { P.observed → said_by (P.calls station.new) ≡ said_by (P.calls station.old) }
-    ensures counts { HasEndCounts result (P.disk_faults station.old) (P.disk_faults station.new)
-        (P.say_faults station.old) (P.say_faults station.new) (S.faults source.old)
-        (S.faults source.new) }
+    ensures counts { HasEndCounts P.Station S.Source result station.old station.new
+        source.old source.new }
     ensures whole { S.observed → IsWhole ahead.old (S.left source.old)
         → ReadsAll result (S.left source.new) }
 {

@@ -1,6 +1,6 @@
 //! The bytes of a feed that were read ahead.
-ghost use Rattle.std.specs.Prelude.{◌≡◌, ◌⊎◌, ◌≤◌, ◌<◌, ◌^◌, ℕ, List, true, false, length, drop, OnOk, IfErr, IsErrOf};
-ghost use Rattle.gts_standby.specs.Cited.{HasRead, IsReadEnd, IsStill, Rose, unread};
+ghost use Rattle.std.specs.Prelude.{◌≡◌, ◌⊎◌, ◌≤◌, ◌<◌, ◌^◌, ℕ, List, true, false, length, drop, OnOk, IfErr};
+ghost use Rattle.gts_standby.specs.Cited.{AsksFeed, HasRead, IsReadEnd, unread};
 
 use crate::FollowEnd;
 use gts_traits::{Failed, Source};
@@ -92,10 +92,7 @@ impl Ahead {
         ensures further { OnOk result ((self.new.is_all ≡ true)
             ⊎ (length self.old.bytes < length self.new.bytes)) }
         ensures kind { IfErr result IsReadEnd }
-        ensures source_fault { IsErrOf result FollowEnd.SourceFault
-            → Rose (S.faults source.old) (S.faults source.new) }
-        ensures later { S.faults source.old ≤ S.faults source.new }
-        ensures sound { IsStill result → S.faults source.new ≡ S.faults source.old }
+        ensures cause { AsksFeed S.Source result source.old source.new }
     {
         let mut piece = [0u8; PIECE];
         let count = match source.read(&mut piece) {
@@ -120,10 +117,7 @@ impl Ahead {
         ensures enough { OnOk result
             ((self.new.is_all ≡ true) ⊎ (want ≤ length self.new.bytes)) }
         ensures kind { IfErr result IsReadEnd }
-        ensures source_fault { IsErrOf result FollowEnd.SourceFault
-            → Rose (S.faults source.old) (S.faults source.new) }
-        ensures later { S.faults source.old ≤ S.faults source.new }
-        ensures sound { IsStill result → S.faults source.new ≡ S.faults source.old }
+        ensures cause { AsksFeed S.Source result source.old source.new }
     {
         if self.len() < want && !self.is_all {
             self.settle();

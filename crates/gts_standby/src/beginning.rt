@@ -1,6 +1,6 @@
 //! A journal begins with the checkpoint of a feed: one without records, or one that begins anew.
-ghost use Rattle.std.specs.Prelude.{◌≡◌, ◌+◌, ◌≤◌, ◌^◌, true, length, IfOk, IfErr, OnOk, IsErrOf, IsTrue, IsOk};
-ghost use Rattle.gts_standby.specs.Cited.{BeginsAny, FitsLimit, IsAddEnd, IsOpened, IsPutEnd, IsStill, IsWhole, KeepsAllCounts, KeepsCounts, MayBegin, Rose, StandsFor, StandsOn, State, StaysWhole, begun, checkpoint_text, compacted_bytes, is_sound, need_of, need_seal, said_by, unowed, written};
+ghost use Rattle.std.specs.Prelude.{◌≡◌, ◌+◌, ◌≤◌, ◌^◌, true, length, IfOk, IfErr, OnOk, IsTrue};
+ghost use Rattle.gts_standby.specs.Cited.{AsksBoth, AsksDiskOf, BeginsAny, FitsLimit, IsAddEnd, IsOpened, IsPutEnd, IsWhole, MayBegin, StandsFor, StandsOn, State, StaysWhole, begun, checkpoint_text, compacted_bytes, is_sound, need_of, need_seal, said_by, unowed, written};
 
 use crate::FollowEnd;
 use crate::ahead::Ahead;
@@ -43,10 +43,7 @@ fn put<P: Station>(
         (P.calls station.old) journal.old (P.calls station.new) }
     ensures silent { P.observed → said_by (P.calls station.new) ≡ said_by (P.calls station.old) }
     ensures kind { IfErr result IsPutEnd }
-    ensures disk_fault { IsErrOf result FollowEnd.DiskFault
-        → Rose (P.disk_faults station.old) (P.disk_faults station.new) }
-    ensures counts { KeepsCounts (IsOk result) (P.disk_faults station.old)
-        (P.disk_faults station.new) (P.say_faults station.old) (P.say_faults station.new) }
+    ensures cause { AsksDiskOf P.Station FollowEnd.DiskFault result station.old station.new }
 {
     // A directory is within its bounds.
     directory.bounds_hold();
@@ -83,13 +80,8 @@ pub(crate) fn begin<P: Station, S: Source>(
     ensures place { IfOk result (λ found. found.1 ≤ 2 ^ 62) }
     ensures kind { IfErr result IsAddEnd }
     ensures silent { P.observed → said_by (P.calls station.new) ≡ said_by (P.calls station.old) }
-    ensures source_fault { IsErrOf result FollowEnd.SourceFault
-        → Rose (S.faults source.old) (S.faults source.new) }
-    ensures disk_fault { IsErrOf result FollowEnd.DiskFault
-        → Rose (P.disk_faults station.old) (P.disk_faults station.new) }
-    ensures counts { KeepsAllCounts (IsStill result) (P.disk_faults station.old)
-        (P.disk_faults station.new) (P.say_faults station.old) (P.say_faults station.new)
-        (S.faults source.old) (S.faults source.new) }
+    ensures cause { AsksBoth P.Station S.Source result station.old station.new
+        source.old source.new }
     ensures whole { S.observed → IsWhole ahead.old (S.left source.old)
         → StaysWhole result ahead.new (S.left source.new) }
 {

@@ -1,6 +1,6 @@
 //! The records that a journal has are compared with those of a feed.
-ghost use Rattle.std.specs.Prelude.{◌≡◌, ◌≤◌, ◌<◌, ◌^◌, ℕ, false, List, nat_eq, length, IfOk, IfErr, OnOk, IsErrOf, IsOk};
-ghost use Rattle.gts_standby.specs.Cited.{ComparesAll, ComparesFirstOfAny, ComparesNext, ComparesRest, FindsPiece, GoesOn, HasRead, IsAtFirst, IsFedEnd, IsLater, IsNamedEnd, IsOwnEnd, IsStill, IsWhole, KeepsAllCounts, KeepsCounts, KeepsOther, OnlySyncs, OwnGoesOn, Rose, StandsOn, StaysWhole, first_piece, held, is_other, pointwise, seals_here, written};
+ghost use Rattle.std.specs.Prelude.{◌≡◌, ◌≤◌, ◌<◌, ◌^◌, ℕ, false, List, nat_eq, length, IfOk, IfErr, OnOk};
+ghost use Rattle.gts_standby.specs.Cited.{AsksBoth, AsksFeed, ComparesAll, ComparesFirstOfAny, ComparesNext, ComparesRest, FindsPiece, GoesOn, HasRead, IsAtFirst, IsFedEnd, IsLater, IsNamedEnd, IsOwnEnd, IsWhole, KeepsOther, LooksAtOf, OnlySyncs, OwnGoesOn, StandsOn, StaysWhole, first_piece, held, is_other, pointwise, seals_here, written};
 
 use crate::FollowEnd;
 use crate::ahead::Ahead;
@@ -47,11 +47,7 @@ fn own_first<P: Station>(
         (seals_here directory.now (P.calls station.old) own.old) }
     ensures goes { OnOk result (GoesOn P.observed (P.calls station.new) own.old own.new) }
     ensures kind { IfErr result IsOwnEnd }
-    ensures told { P.observed → P.calls station.new ≡ P.calls station.old }
-    ensures disk_fault { IsErrOf result FollowEnd.DiskFault
-        → Rose (P.disk_faults station.old) (P.disk_faults station.new) }
-    ensures counts { KeepsCounts (IsOk result) (P.disk_faults station.old)
-        (P.disk_faults station.new) (P.say_faults station.old) (P.say_faults station.new) }
+    ensures looks { LooksAtOf P.Station FollowEnd.DiskFault result station.old station.new }
     ensures named { IfErr result IsNamedEnd }
 {
     if !own.at_checkpoint() {
@@ -82,10 +78,7 @@ fn fed_first<S: Source>(
     ensures there { IfOk result (λ found. found.0 ≤ length ahead.new.bytes) }
     ensures size { IfOk result (λ found. found.0 ≤ 2 ^ 31) }
     ensures kind { IfErr result IsFedEnd }
-    ensures source_fault { IsErrOf result FollowEnd.SourceFault
-        → Rose (S.faults source.old) (S.faults source.new) }
-    ensures source_later { S.faults source.old ≤ S.faults source.new }
-    ensures sound { IsStill result → S.faults source.new ≡ S.faults source.old }
+    ensures cause { AsksFeed S.Source result source.old source.new }
 {
     if is_at_checkpoint(source, ahead)? {
         fed_checkpoint(source, ahead, limit, version, before)
@@ -115,13 +108,8 @@ fn compare_first<P: Station, S: Source>(
     ensures size { IfOk result (λ size. size ≤ 2 ^ 31) }
     ensures goes { OnOk result (GoesOn P.observed (P.calls station.new) own.old own.new) }
     ensures told { P.observed → P.calls station.new ≡ P.calls station.old }
-    ensures disk_fault { IsErrOf result FollowEnd.DiskFault
-        → Rose (P.disk_faults station.old) (P.disk_faults station.new) }
-    ensures counts { KeepsAllCounts (IsStill result) (P.disk_faults station.old)
-        (P.disk_faults station.new) (P.say_faults station.old) (P.say_faults station.new)
-        (S.faults source.old) (S.faults source.new) }
-    ensures source_fault { IsErrOf result FollowEnd.SourceFault
-        → Rose (S.faults source.old) (S.faults source.new) }
+    ensures cause { AsksBoth P.Station S.Source result station.old station.new
+        source.old source.new }
     ensures whole { S.observed → IsWhole ahead.old (S.left source.old)
         → StaysWhole result ahead.new (S.left source.new) }
     ensures named { IfErr result IsNamedEnd }
@@ -164,13 +152,8 @@ fn compare_next<P: Station, S: Source>(
     ensures size { IfOk result (λ size. size ≤ 2 ^ 20) }
     ensures goes { OnOk result (GoesOn P.observed (P.calls station.new) own.old own.new) }
     ensures told { P.observed → P.calls station.new ≡ P.calls station.old }
-    ensures disk_fault { IsErrOf result FollowEnd.DiskFault
-        → Rose (P.disk_faults station.old) (P.disk_faults station.new) }
-    ensures counts { KeepsAllCounts (IsStill result) (P.disk_faults station.old)
-        (P.disk_faults station.new) (P.say_faults station.old) (P.say_faults station.new)
-        (S.faults source.old) (S.faults source.new) }
-    ensures source_fault { IsErrOf result FollowEnd.SourceFault
-        → Rose (S.faults source.old) (S.faults source.new) }
+    ensures cause { AsksBoth P.Station S.Source result station.old station.new
+        source.old source.new }
     ensures whole { S.observed → IsWhole ahead.old (S.left source.old)
         → StaysWhole result ahead.new (S.left source.new) }
     ensures named { IfErr result IsNamedEnd }
@@ -213,13 +196,8 @@ fn compare_rest<P: Station, S: Source>(
     ensures later { IsLater result }
     ensures told { P.observed → P.calls station.new ≡ P.calls station.old }
     ensures place { IfOk result (λ at. at ≤ 2 ^ 62) }
-    ensures disk_fault { IsErrOf result FollowEnd.DiskFault
-        → Rose (P.disk_faults station.old) (P.disk_faults station.new) }
-    ensures counts { KeepsAllCounts (IsStill result) (P.disk_faults station.old)
-        (P.disk_faults station.new) (P.say_faults station.old) (P.say_faults station.new)
-        (S.faults source.old) (S.faults source.new) }
-    ensures source_fault { IsErrOf result FollowEnd.SourceFault
-        → Rose (S.faults source.old) (S.faults source.new) }
+    ensures cause { AsksBoth P.Station S.Source result station.old station.new
+        source.old source.new }
     ensures whole { S.observed → IsWhole ahead.old (S.left source.old)
         → StaysWhole result ahead.new (S.left source.new) }
     ensures named { IfErr result IsNamedEnd }
@@ -252,13 +230,8 @@ pub(crate) fn compare<P: Station, S: Source>(
         → KeepsOther result fed ahead.new (S.left source.new) }
     ensures told { P.observed → OnlySyncs (P.calls station.old) (P.calls station.new) }
     ensures place { IfOk result (λ at. at ≤ 2 ^ 62) }
-    ensures disk_fault { IsErrOf result FollowEnd.DiskFault
-        → Rose (P.disk_faults station.old) (P.disk_faults station.new) }
-    ensures counts { KeepsAllCounts (IsStill result) (P.disk_faults station.old)
-        (P.disk_faults station.new) (P.say_faults station.old) (P.say_faults station.new)
-        (S.faults source.old) (S.faults source.new) }
-    ensures source_fault { IsErrOf result FollowEnd.SourceFault
-        → Rose (S.faults source.old) (S.faults source.new) }
+    ensures cause { AsksBoth P.Station S.Source result station.old station.new
+        source.old source.new }
     ensures whole { S.observed → IsWhole ahead.old (S.left source.old)
         → StaysWhole result ahead.new (S.left source.new) }
     ensures named { IfErr result IsNamedEnd }

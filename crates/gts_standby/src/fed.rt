@@ -1,6 +1,6 @@
 //! The next record of a feed.
-ghost use Rattle.std.specs.Prelude.{◌≡◌, ◌≤◌, ◌+◌, ◌++◌, ℕ, List, true, is_some, length, drop, replicate, IfOk, IfErr, IsErrOf};
-ghost use Rattle.gts_standby.specs.Cited.{Breaks, Ends, FindsPiece, HasRead, IsFedEnd, IsLookedEnd, IsStill, IsUnsealed, Rose, held, may_be_cut, may_begin, record_piece, stopped};
+ghost use Rattle.std.specs.Prelude.{◌≡◌, ◌≤◌, ◌+◌, ◌++◌, ℕ, List, true, is_some, length, drop, replicate, IfOk, IfErr};
+ghost use Rattle.gts_standby.specs.Cited.{AsksFeed, FindsPiece, HasRead, IsFedEnd, IsLookedEnd, IsUnsealed, held, may_be_cut, may_begin, record_piece};
 ghost use Rattle.gts_record.specs.Record.{record_at};
 
 use crate::FollowEnd;
@@ -96,10 +96,7 @@ pub(crate) fn fed_record<S: Source>(
     ensures there { IfOk result (λ found. found.0 ≤ length ahead.new.bytes) }
     ensures size { IfOk result (λ found. found.0 ≤ LONGEST) }
     ensures kind { IfErr result IsFedEnd }
-    ensures source_fault { IsErrOf result FollowEnd.SourceFault
-        → Rose (S.faults source.old) (S.faults source.new) }
-    ensures later { S.faults source.old ≤ S.faults source.new }
-    ensures sound { IsStill result → S.faults source.new ≡ S.faults source.old }
+    ensures cause { AsksFeed S.Source result source.old source.new }
 {
     ahead.fill(source, LONGEST)?;
     match decode_sealed(version, before, ahead.bytes()) {

@@ -32,9 +32,8 @@ fn take_checkpoint<P: Station, S: Source>(
         (P.calls station.new) (S.left source.new) }
     ensures kind { IsAddEnd result }
     ensures silent { P.observed → said_by (P.calls station.new) ≡ said_by (P.calls station.old) }
-    ensures counts { HasEndCounts result (P.disk_faults station.old) (P.disk_faults station.new)
-        (P.say_faults station.old) (P.say_faults station.new) (S.faults source.old)
-        (S.faults source.new) }
+    ensures counts { HasEndCounts P.Station S.Source result station.old station.new
+        source.old source.new }
     ensures whole { S.observed → IsWhole ahead.old (S.left source.old)
         → ReadsAll result (S.left source.new) }
 {
@@ -72,9 +71,8 @@ fn take_first<P: Station, S: Source>(
         (P.calls station.new) (S.left source.new) }
     ensures kind { IsAddEnd result }
     ensures silent { P.observed → said_by (P.calls station.new) ≡ said_by (P.calls station.old) }
-    ensures counts { HasEndCounts result (P.disk_faults station.old) (P.disk_faults station.new)
-        (P.say_faults station.old) (P.say_faults station.new) (S.faults source.old)
-        (S.faults source.new) }
+    ensures counts { HasEndCounts P.Station S.Source result station.old station.new
+        source.old source.new }
     ensures whole { S.observed → IsWhole ahead.old (S.left source.old)
         → ReadsAll result (S.left source.new) }
 {
@@ -106,9 +104,8 @@ fn take_other<P: Station, S: Source>(
         (P.calls station.old) standby.core standby.journal ahead.old (S.left source.old)
         (P.calls station.new) (S.left source.new) }
     ensures silent { P.observed → said_by (P.calls station.new) ≡ said_by (P.calls station.old) }
-    ensures counts { HasEndCounts result (P.disk_faults station.old) (P.disk_faults station.new)
-        (P.say_faults station.old) (P.say_faults station.new) (S.faults source.old)
-        (S.faults source.new) }
+    ensures counts { HasEndCounts P.Station S.Source result station.old station.new
+        source.old source.new }
     ensures whole { S.observed → IsWhole ahead.old (S.left source.old)
         → ReadsAll result (S.left source.new) }
     ensures named { IsNamedEnd result }
@@ -135,9 +132,8 @@ fn take_records<P: Station, S: Source>(
         (P.calls station.old) standby.core standby.journal ahead.old (S.left source.old)
         (P.calls station.new) (S.left source.new) }
     ensures silent { P.observed → said_by (P.calls station.new) ≡ said_by (P.calls station.old) }
-    ensures counts { HasEndCounts result (P.disk_faults station.old) (P.disk_faults station.new)
-        (P.say_faults station.old) (P.say_faults station.new) (S.faults source.old)
-        (S.faults source.new) }
+    ensures counts { HasEndCounts P.Station S.Source result station.old station.new
+        source.old source.new }
     ensures whole { S.observed → IsWhole ahead.old (S.left source.old)
         → ReadsAll result (S.left source.new) }
     ensures named { IsNamedEnd result }
@@ -178,9 +174,8 @@ fn take_feed<P: Station, S: Source>(
     ensures unopened { P.observed → LeavesUnopened directory.now (P.calls station.old)
         (P.calls station.new) (source.new ≡ source.old) }
     ensures silent { P.observed → said_by (P.calls station.new) ≡ said_by (P.calls station.old) }
-    ensures counts { HasEndCounts result (P.disk_faults station.old) (P.disk_faults station.new)
-        (P.say_faults station.old) (P.say_faults station.new) (S.faults source.old)
-        (S.faults source.new) }
+    ensures counts { HasEndCounts P.Station S.Source result station.old station.new
+        source.old source.new }
     ensures named { IsNamedEnd result }
 {
     let (core, journal) = match open_core(alloc, station, directory) {
@@ -235,8 +230,8 @@ pub fn follow<P: Station, S: Source>(
     ensures silent { P.observed → said_by (P.calls result.0) ≡ said_by (P.calls station) }
 
     // A device's fault is answered only where that device failed, and at an end of the feed none did.
-    ensures counts { HasEndCounts result.1 (P.disk_faults station) (P.disk_faults result.0)
-        (P.say_faults station) (P.say_faults result.0) (S.faults source.old) (S.faults source.new) }
+    ensures counts { HasEndCounts P.Station S.Source result.1 station result.0
+        source.old source.new }
 
     // A fault of the disk, and want of memory, have names of their own.
     ensures named { IsNamedEnd result.1 }

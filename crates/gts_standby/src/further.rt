@@ -1,6 +1,6 @@
 //! Whether a journal may begin anew with the checkpoint of a feed.
-ghost use Rattle.std.specs.Prelude.{◌≡◌, ◌≤◌, ℕ, List, zip, map, nat_lt, IfOk, IfErr, IsErrOf};
-ghost use Rattle.gts_standby.specs.Cited.{FindsFurther, HasRead, Holds, IsReadEnd, IsStill, Rose, State, circuit_need_of, list_any, need_of};
+ghost use Rattle.std.specs.Prelude.{◌≡◌, ℕ, List, zip, map, nat_lt, IfOk, IfErr};
+ghost use Rattle.gts_standby.specs.Cited.{AsksFeed, FindsFurther, HasRead, Holds, IsReadEnd, State, circuit_need_of, list_any, need_of};
 ghost use Rattle.gts_standby.specs.Taking as feeds;
 
 use crate::FollowEnd;
@@ -45,10 +45,7 @@ pub(crate) fn is_further<S: Source>(
         → HasRead fed ahead.old (S.left source.old)
         → IfOk result (λ is. FindsFurther is directory.now s fed ahead.new (S.left source.new)) }
     ensures kind { IfErr result IsReadEnd }
-    ensures source_fault { IsErrOf result FollowEnd.SourceFault
-        → Rose (S.faults source.old) (S.faults source.new) }
-    ensures source_later { S.faults source.old ≤ S.faults source.new }
-    ensures sound { IsStill result → S.faults source.new ≡ S.faults source.old }
+    ensures cause { AsksFeed S.Source result source.old source.new }
 {
     let version = Version::written();
     let limit = directory.limit();

@@ -1,6 +1,6 @@
 //! Records of a feed are gathered behind a journal, and brought into it behind one gate.
-ghost use Rattle.std.specs.Prelude.{◌≡◌, ◌+◌, ◌<◌, ◌≤◌, true, length, IfOk, IfErr, OnOk, OnErr, IsErrOf, IsOk};
-ghost use Rattle.gts_standby.specs.Cited.{Brings, CanGather, GathersNext, IsEnd, IsFedEnd, IsFinished, IsGathered, IsStill, IsWhole, KeepsCounts, MOST_GATHERED, MayBring, MayHaveBrought, Rose, StaysWhole, gate_behind, held, no_records, said_by};
+ghost use Rattle.std.specs.Prelude.{◌≡◌, ◌+◌, ◌<◌, length, IfOk, IfErr, OnOk, OnErr};
+ghost use Rattle.gts_standby.specs.Cited.{AsksDisk, AsksFeed, Brings, CanGather, GathersNext, HasDiskCounts, IsFedEnd, IsFinished, IsGathered, IsWhole, MOST_GATHERED, MayBring, MayHaveBrought, StaysWhole, held, no_records, said_by};
 
 use crate::FollowEnd;
 use crate::ahead::Ahead;
@@ -55,10 +55,7 @@ impl Gathering {
             (S.left source.old) core.new self.new ahead.new (S.left source.new) }
         ensures unchanged { OnErr result (self.new ≡ self.old) }
         ensures kind { IfErr result IsFedEnd }
-        ensures source_fault { IsErrOf result FollowEnd.SourceFault
-            → Rose (S.faults source.old) (S.faults source.new) }
-        ensures later { S.faults source.old ≤ S.faults source.new }
-        ensures sound { IsStill result → S.faults source.new ≡ S.faults source.old }
+        ensures cause { AsksFeed S.Source result source.old source.new }
         ensures whole { S.observed → IsWhole ahead.old (S.left source.old)
             → StaysWhole result ahead.new (S.left source.new) }
     {
@@ -100,10 +97,7 @@ impl Gathering {
         ensures silent { P.observed → said_by (P.calls station.new) ≡ said_by
             (P.calls station.old) }
         ensures kind { IfErr result (λ end. end ≡ FollowEnd.DiskFault) }
-        ensures disk_fault { OnErr result
-            (Rose (P.disk_faults station.old) (P.disk_faults station.new)) }
-        ensures counts { KeepsCounts (IsOk result) (P.disk_faults station.old)
-            (P.disk_faults station.new) (P.say_faults station.old) (P.say_faults station.new) }
+        ensures cause { AsksDisk P.Station result station.old station.new }
     {
         // A limit is low enough for the places of gates.
         directory.bounds_hold();
@@ -134,10 +128,7 @@ impl Gathering {
         ensures silent { P.observed → said_by (P.calls station.new) ≡ said_by
             (P.calls station.old) }
         ensures kind { IfErr result (λ end. end ≡ FollowEnd.DiskFault) }
-        ensures disk_fault { OnErr result
-            (Rose (P.disk_faults station.old) (P.disk_faults station.new)) }
-        ensures counts { KeepsCounts (IsOk result) (P.disk_faults station.old)
-            (P.disk_faults station.new) (P.say_faults station.old) (P.say_faults station.new) }
+        ensures cause { AsksDisk P.Station result station.old station.new }
     {
         let is_there = ahead.is_all() || ahead.len() >= LONGEST;
         if self.batch.room() > LONGEST && is_there {
@@ -162,10 +153,7 @@ impl Gathering {
             (P.calls station.new) }
         ensures silent { P.observed → said_by (P.calls station.new) ≡ said_by
             (P.calls station.old) }
-        ensures disk_fault { result ≡ FollowEnd.DiskFault
-            → Rose (P.disk_faults station.old) (P.disk_faults station.new) }
-        ensures counts { KeepsCounts (IsEnd result) (P.disk_faults station.old)
-            (P.disk_faults station.new) (P.say_faults station.old) (P.say_faults station.new) }
+        ensures counts { HasDiskCounts P.Station result station.old station.new }
     {
         match self.bring(station, directory) {
             Ok(()) => end,

@@ -1,6 +1,6 @@
 //! The header of a feed.
-ghost use Rattle.std.specs.Prelude.{◌≡◌, ◌≤◌, ◌++◌, ℕ, List, length, IfErr, IsErrOf};
-ghost use Rattle.gts_standby.specs.Cited.{HasRead, IsFedEnd, IsReadEnd, IsStill, Rose, TakesHeader, magic, written};
+ghost use Rattle.std.specs.Prelude.{◌≡◌, ◌≤◌, ◌++◌, ℕ, List, length, IfErr};
+ghost use Rattle.gts_standby.specs.Cited.{AsksFeed, HasRead, IsFedEnd, TakesHeader, magic, written};
 ghost use Rattle.gts_opening.specs.Journal as opened;
 
 use crate::FollowEnd;
@@ -42,10 +42,7 @@ pub(crate) fn take_header<S: Source>(
     ensures taken { S.observed → (fed : List ℕ) → HasRead fed ahead.old (S.left source.old)
         → TakesHeader result (magic written ++ mark) fed ahead.new (S.left source.new) }
     ensures kind { IfErr result IsFedEnd }
-    ensures source_fault { IsErrOf result FollowEnd.SourceFault
-        → Rose (S.faults source.old) (S.faults source.new) }
-    ensures later { S.faults source.old ≤ S.faults source.new }
-    ensures sound { IsStill result → S.faults source.new ≡ S.faults source.old }
+    ensures cause { AsksFeed S.Source result source.old source.new }
 {
     ahead.fill(source, HEADER)?;
     let bytes = ahead.bytes();

@@ -1,6 +1,6 @@
 //! A journal goes on behind a record that nobody looks at.
-ghost use Rattle.std.specs.Prelude.{◌≡◌, ◌<◌, ◌≤◌, ◌^◌, false, OnOk, IsErrOf, IsOk};
-ghost use Rattle.gts_standby.specs.Cited.{GoesOn, KeepsCounts, PassesNext, Rose, StandsOn, next_entry};
+ghost use Rattle.std.specs.Prelude.{◌≡◌, ◌<◌, ◌≤◌, ◌^◌, false, OnOk};
+ghost use Rattle.gts_standby.specs.Cited.{GoesOn, LooksAtOf, PassesNext, StandsOn, next_entry};
 
 use gts_journal::{Journal, OpenFault};
 use gts_traits::Station;
@@ -14,11 +14,7 @@ pub(crate) fn pass_next<P: Station>(station: &mut P, journal: &mut Journal) -> R
         journal.old journal.new }
     ensures goes { OnOk result (GoesOn P.observed (P.calls station.new) journal.old journal.new) }
     ensures room { OnOk result (journal.new.gate ≤ 2 ^ 41) }
-    ensures told { P.observed → P.calls station.new ≡ P.calls station.old }
-    ensures disk_fault { IsErrOf result OpenFault.DiskFault
-        → Rose (P.disk_faults station.old) (P.disk_faults station.new) }
-    ensures counts { KeepsCounts (IsOk result) (P.disk_faults station.old)
-        (P.disk_faults station.new) (P.say_faults station.old) (P.say_faults station.new) }
+    ensures looks { LooksAtOf P.Station OpenFault.DiskFault result station.old station.new }
 {
     let file = journal.file();
     let gate = journal.used();

@@ -1,12 +1,9 @@
-ghost use Rattle.std.specs.Prelude.{◌≡◌, ◌≤◌, ◌<◌, ◌-◌, ◌^◌, length, take, drop, IfErr, IsErrOf, OnOk};
-ghost use Rattle.gts_standby.specs.Cited.{IsNamed, IsQuiet, Rose, Speaks, seen};
+ghost use Rattle.std.specs.Prelude.{◌≡◌, ◌≤◌, ◌<◌, ◌-◌, ◌^◌, length, take, drop, IfErr};
+ghost use Rattle.gts_standby.specs.Cited.{AsksOutput, AsksToShip, IsNamed, IsQuiet, Speaks, seen};
 
 use crate::ShipFault;
 use gts_journal::OpenFault;
-use gts_traits::{Failed, JournalFile, Station};
-
-/// The channel of receipts, reports and feeds.
-const OPERATOR: u32 = 0;
+use gts_traits::{Channel, Failed, JournalFile, Station};
 
 /// How many bytes of a file are read and said at once.
 const PIECE: usize = 4096;
@@ -15,14 +12,10 @@ const PIECE: usize = 4096;
 fn say_piece<P: Station>(station: &mut P, piece: &[u8]) -> Result<(), ShipFault>
     ensures told { P.observed → Speaks result (P.calls station.old)
         (P.calls station.new) piece.now }
-    ensures say_fault { IsErrOf result ShipFault.SayFault
-        → Rose (P.say_faults station.old) (P.say_faults station.new) }
     ensures kind { IfErr result (λ e. e ≡ ShipFault.SayFault) }
-    ensures later { P.say_faults station.old ≤ P.say_faults station.new }
-    ensures sound { OnOk result (P.say_faults station.new ≡ P.say_faults station.old) }
-    ensures disk { P.disk_faults station.new ≡ P.disk_faults station.old }
+    ensures cause { AsksOutput P.Station result station.old station.new }
 {
-    match station.say(OPERATOR, piece) {
+    match station.say(Channel::OPERATOR, piece) {
         Ok(()) => Ok(()),
         Err(Failed) => Err(ShipFault::SayFault),
     }
@@ -43,14 +36,7 @@ pub(crate) fn say_part<P: Station>(
         (take (to - from) (drop from (seen (P.calls station.old) file))) }
     ensures kind { P.observed → IfErr result IsQuiet }
     ensures named { IfErr result IsNamed }
-    ensures disk_fault { IsErrOf result ShipFault.DiskFault
-        → Rose (P.disk_faults station.old) (P.disk_faults station.new) }
-    ensures say_fault { IsErrOf result ShipFault.SayFault
-        → Rose (P.say_faults station.old) (P.say_faults station.new) }
-    ensures later { P.disk_faults station.old ≤ P.disk_faults station.new }
-    ensures say { P.say_faults station.old ≤ P.say_faults station.new }
-    ensures sound { OnOk result ((P.disk_faults station.new ≡ P.disk_faults station.old)
-        × (P.say_faults station.new ≡ P.say_faults station.old)) }
+    ensures cause { AsksToShip P.Station result station.old station.new }
 {
     let mut piece = [0u8; PIECE];
     let mut at = from;

@@ -1,5 +1,5 @@
-ghost use Rattle.std.specs.Prelude.{◌≡◌, ◌≤◌, ◌<◌, ◌^◌, ℕ, false, List, IfErr, OnOk, IsErrOf};
-ghost use Rattle.gts_standby.specs.Cited.{Directory, IsAtGate, IsNamed, Rose, SaysOne, SaysRest, StandsOn};
+ghost use Rattle.std.specs.Prelude.{◌≡◌, ◌<◌, ◌^◌, ℕ, false, List, IfErr, OnOk};
+ghost use Rattle.gts_standby.specs.Cited.{AsksToShip, Directory, IsAtGate, IsNamed, SaysOne, SaysRest, StandsOn};
 
 use crate::ShipFault;
 use crate::passing::pass_next;
@@ -19,14 +19,7 @@ fn say_next<P: Station>(station: &mut P, journal: &mut Journal) -> Result<(), Sh
     ensures stands { P.observed → OnOk result (StandsOn (P.calls station.new) journal.new) }
     ensures rises { OnOk result (journal.old.gate < journal.new.gate) }
     ensures named { IfErr result IsNamed }
-    ensures disk_fault { IsErrOf result ShipFault.DiskFault
-        → Rose (P.disk_faults station.old) (P.disk_faults station.new) }
-    ensures say_fault { IsErrOf result ShipFault.SayFault
-        → Rose (P.say_faults station.old) (P.say_faults station.new) }
-    ensures later { P.disk_faults station.old ≤ P.disk_faults station.new }
-    ensures say { P.say_faults station.old ≤ P.say_faults station.new }
-    ensures sound { OnOk result ((P.disk_faults station.new ≡ P.disk_faults station.old)
-        × (P.say_faults station.new ≡ P.say_faults station.old)) }
+    ensures cause { AsksToShip P.Station result station.old station.new }
 {
     let gate = journal.used();
     let file = journal.file();
@@ -48,14 +41,7 @@ pub(crate) fn say_records<P: Station>(
         → IsAtGate d (P.calls station.old) journal.old end left
         → SaysRest result (P.calls station.old) (P.calls station.new) left }
     ensures named { IfErr result IsNamed }
-    ensures disk_fault { IsErrOf result ShipFault.DiskFault
-        → Rose (P.disk_faults station.old) (P.disk_faults station.new) }
-    ensures say_fault { IsErrOf result ShipFault.SayFault
-        → Rose (P.say_faults station.old) (P.say_faults station.new) }
-    ensures later { P.disk_faults station.old ≤ P.disk_faults station.new }
-    ensures say { P.say_faults station.old ≤ P.say_faults station.new }
-    ensures sound { OnOk result ((P.disk_faults station.new ≡ P.disk_faults station.old)
-        × (P.say_faults station.new ≡ P.say_faults station.old)) }
+    ensures cause { AsksToShip P.Station result station.old station.new }
 {
     while journal.used() < end {
         say_next(station, journal)?;

@@ -1,6 +1,6 @@
 //! The checkpoint at the front of a feed's records: how long it is, and its seal.
-ghost use Rattle.std.specs.Prelude.{◌≡◌, ◌≤◌, ◌<◌, ◌+◌, ◌*◌, ◌^◌, ℕ, List, length, replicate, Some, None, IfOk, IfSome, IfErr, IsErrOf};
-ghost use Rattle.gts_standby.specs.Cited.{FindsFront, FindsPiece, HasRead, IsFedEnd, IsReadEnd, IsStill, Rose, behind_listed, held, listed_size, seal_size};
+ghost use Rattle.std.specs.Prelude.{◌≡◌, ◌≤◌, ◌<◌, ◌+◌, ◌*◌, ◌^◌, ℕ, List, length, replicate, Some, None, IfOk, IfSome, IfErr};
+ghost use Rattle.gts_standby.specs.Cited.{AsksFeed, FindsFront, FindsPiece, HasRead, IsFedEnd, IsReadEnd, behind_listed, held, listed_size, seal_size};
 ghost use Rattle.gts_standby.specs.Reading.{Reaches};
 ghost use Rattle.gts_standby.specs.Taking as feeds;
 
@@ -115,10 +115,7 @@ fn reach<S: Source>(
         → Reaches result (feeds.reach limit fed at size) fed ahead.new (S.left source.new) }
     ensures there { IfOk result (λ behind. (behind ≤ length ahead.new.bytes) × (behind ≤ limit)) }
     ensures kind { IfErr result IsFedEnd }
-    ensures source_fault { IsErrOf result FollowEnd.SourceFault
-        → Rose (S.faults source.old) (S.faults source.new) }
-    ensures later { S.faults source.old ≤ S.faults source.new }
-    ensures sound { IsStill result → S.faults source.new ≡ S.faults source.old }
+    ensures cause { AsksFeed S.Source result source.old source.new }
 {
     let behind = at + size;
     if behind > limit {
@@ -145,10 +142,7 @@ fn behind_one<S: Source>(
         → Reaches result (behind_listed listed limit fed at) fed ahead.new (S.left source.new) }
     ensures there { IfOk result (λ behind. (behind ≤ length ahead.new.bytes) × (behind ≤ limit)) }
     ensures kind { IfErr result IsFedEnd }
-    ensures source_fault { IsErrOf result FollowEnd.SourceFault
-        → Rose (S.faults source.old) (S.faults source.new) }
-    ensures later { S.faults source.old ≤ S.faults source.new }
-    ensures sound { IsStill result → S.faults source.new ≡ S.faults source.old }
+    ensures cause { AsksFeed S.Source result source.old source.new }
 {
     ahead.fill(source, at + HEAD)?;
     match size_in(listed, ahead.bytes(), at) {
@@ -174,10 +168,7 @@ fn behind_all<S: Source>(
         fed ahead.new (S.left source.new) }
     ensures there { IfOk result (λ behind. (behind ≤ length ahead.new.bytes) × (behind ≤ limit)) }
     ensures kind { IfErr result IsFedEnd }
-    ensures source_fault { IsErrOf result FollowEnd.SourceFault
-        → Rose (S.faults source.old) (S.faults source.new) }
-    ensures later { S.faults source.old ≤ S.faults source.new }
-    ensures sound { IsStill result → S.faults source.new ≡ S.faults source.old }
+    ensures cause { AsksFeed S.Source result source.old source.new }
 {
     let mut at = at;
     let mut left = count;
@@ -202,10 +193,7 @@ fn behind_lists<S: Source>(
         fed ahead.new (S.left source.new) }
     ensures there { IfOk result (λ behind. (behind ≤ length ahead.new.bytes) × (behind ≤ limit)) }
     ensures kind { IfErr result IsFedEnd }
-    ensures source_fault { IsErrOf result FollowEnd.SourceFault
-        → Rose (S.faults source.old) (S.faults source.new) }
-    ensures later { S.faults source.old ≤ S.faults source.new }
-    ensures sound { IsStill result → S.faults source.new ≡ S.faults source.old }
+    ensures cause { AsksFeed S.Source result source.old source.new }
 {
     let front = reach(source, ahead, limit, 0, FRONT)?;
     let at = behind_all(source, ahead, limit, Listed::Bulletin, front, bulletins)?;
@@ -219,10 +207,7 @@ fn scan<S: Source>(source: &mut S, ahead: &mut Ahead, limit: usize) -> Result<us
         → Reaches result (feeds.behind_checkpoint limit fed) fed ahead.new (S.left source.new) }
     ensures there { IfOk result (λ behind. (behind ≤ length ahead.new.bytes) × (behind ≤ limit)) }
     ensures kind { IfErr result IsFedEnd }
-    ensures source_fault { IsErrOf result FollowEnd.SourceFault
-        → Rose (S.faults source.old) (S.faults source.new) }
-    ensures later { S.faults source.old ≤ S.faults source.new }
-    ensures sound { IsStill result → S.faults source.new ≡ S.faults source.old }
+    ensures cause { AsksFeed S.Source result source.old source.new }
 {
     ahead.fill(source, FRONT)?;
     match front_in(ahead.bytes()) {
@@ -248,10 +233,7 @@ pub(crate) fn fed_checkpoint<S: Source>(
     ensures with_seal { IfOk result (λ found. seal_size version ≤ found.0) }
     ensures size { IfOk result (λ found. found.0 ≤ 2 ^ 31) }
     ensures kind { IfErr result IsFedEnd }
-    ensures source_fault { IsErrOf result FollowEnd.SourceFault
-        → Rose (S.faults source.old) (S.faults source.new) }
-    ensures source_later { S.faults source.old ≤ S.faults source.new }
-    ensures sound { IsStill result → S.faults source.new ≡ S.faults source.old }
+    ensures cause { AsksFeed S.Source result source.old source.new }
 {
     let size = scan(source, ahead, limit as usize)?;
     let count = version.seal_size();
@@ -277,10 +259,7 @@ pub(crate) fn is_at_checkpoint<S: Source>(
         → IfOk result (λ may. (may ≡ feeds.is_checkpoint_fed fed)
         × HasRead fed ahead.new (S.left source.new)) }
     ensures kind { IfErr result IsReadEnd }
-    ensures source_fault { IsErrOf result FollowEnd.SourceFault
-        → Rose (S.faults source.old) (S.faults source.new) }
-    ensures source_later { S.faults source.old ≤ S.faults source.new }
-    ensures sound { IsStill result → S.faults source.new ≡ S.faults source.old }
+    ensures cause { AsksFeed S.Source result source.old source.new }
 {
     ahead.fill(source, 1)?;
     Ok(ahead.bytes().starts_with(b"C"))

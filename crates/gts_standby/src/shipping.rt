@@ -1,5 +1,5 @@
-ghost use Rattle.std.specs.Prelude.{◌≡◌, ◌≤◌, ◌<◌, ◌^◌, ℕ, false, IfErr, OnOk, IsErrOf};
-ghost use Rattle.gts_standby.specs.Cited.{IsAtFirst, IsNamed, IsShipFault, OnlySyncsUnopened, Rose, SaysOne, SaysRest, ShipsOnly, StandsOn, behind_header, feed, feed_of, file_of, since_of};
+ghost use Rattle.std.specs.Prelude.{◌≡◌, ◌<◌, ◌^◌, false, IfErr, OnOk};
+ghost use Rattle.gts_standby.specs.Cited.{AsksToShip, IsAtFirst, IsNamed, IsShipFault, OnlySyncsUnopened, SaysOne, SaysRest, ShipsOnly, StandsOn, behind_header, feed, feed_of, file_of, since_of};
 
 use crate::ShipFault;
 use crate::piece::say_part;
@@ -32,14 +32,7 @@ fn say_checkpoint<P: Station>(
     ensures going { OnOk result (journal.new.ended ≡ false) }
     ensures stands { P.observed → OnOk result (StandsOn (P.calls station.new) journal.new) }
     ensures named { IfErr result IsNamed }
-    ensures disk_fault { IsErrOf result ShipFault.DiskFault
-        → Rose (P.disk_faults station.old) (P.disk_faults station.new) }
-    ensures say_fault { IsErrOf result ShipFault.SayFault
-        → Rose (P.say_faults station.old) (P.say_faults station.new) }
-    ensures later { P.disk_faults station.old ≤ P.disk_faults station.new }
-    ensures say { P.say_faults station.old ≤ P.say_faults station.new }
-    ensures sound { OnOk result ((P.disk_faults station.new ≡ P.disk_faults station.old)
-        × (P.say_faults station.new ≡ P.say_faults station.old)) }
+    ensures cause { AsksToShip P.Station result station.old station.new }
 {
     let _ = end;
     if !journal.at_checkpoint() {
@@ -69,14 +62,7 @@ fn say_feed<P: Station>(
     ensures said { P.observed → SaysRest result (P.calls station.old) (P.calls station.new)
         (feed journal.version directory.now.mark (file_of (P.calls station.old) journal)) }
     ensures named { IfErr result IsNamed }
-    ensures disk_fault { IsErrOf result ShipFault.DiskFault
-        → Rose (P.disk_faults station.old) (P.disk_faults station.new) }
-    ensures say_fault { IsErrOf result ShipFault.SayFault
-        → Rose (P.say_faults station.old) (P.say_faults station.new) }
-    ensures later { P.disk_faults station.old ≤ P.disk_faults station.new }
-    ensures say { P.say_faults station.old ≤ P.say_faults station.new }
-    ensures sound { OnOk result ((P.disk_faults station.new ≡ P.disk_faults station.old)
-        × (P.say_faults station.new ≡ P.say_faults station.old)) }
+    ensures cause { AsksToShip P.Station result station.old station.new }
 {
     let mut journal = journal;
     say_part(station, journal.file(), 0, HEADER as u64)?;
@@ -105,14 +91,7 @@ pub fn ship<P: Station>(
     ensures unopened { P.observed
         → OnlySyncsUnopened directory.now (P.calls station.old) (P.calls station.new) }
     ensures named { IfErr result IsNamed }
-    ensures disk_fault { IsErrOf result ShipFault.DiskFault
-        → Rose (P.disk_faults station.old) (P.disk_faults station.new) }
-    ensures say_fault { IsErrOf result ShipFault.SayFault
-        → Rose (P.say_faults station.old) (P.say_faults station.new) }
-    ensures later { P.disk_faults station.old ≤ P.disk_faults station.new }
-    ensures say { P.say_faults station.old ≤ P.say_faults station.new }
-    ensures sound { OnOk result ((P.disk_faults station.new ≡ P.disk_faults station.old)
-        × (P.say_faults station.new ≡ P.say_faults station.old)) }
+    ensures cause { AsksToShip P.Station result station.old station.new }
 {
     // A limit is low enough for the places of gates.
     directory.bounds_hold();
@@ -145,14 +124,7 @@ pub fn ship_since<P: Station>(
     ensures unopened { P.observed
         → OnlySyncsUnopened directory.now (P.calls station.old) (P.calls station.new) }
     ensures named { IfErr result IsNamed }
-    ensures disk_fault { IsErrOf result ShipFault.DiskFault
-        → Rose (P.disk_faults station.old) (P.disk_faults station.new) }
-    ensures say_fault { IsErrOf result ShipFault.SayFault
-        → Rose (P.say_faults station.old) (P.say_faults station.new) }
-    ensures later { P.disk_faults station.old ≤ P.disk_faults station.new }
-    ensures say { P.say_faults station.old ≤ P.say_faults station.new }
-    ensures sound { OnOk result ((P.disk_faults station.new ≡ P.disk_faults station.old)
-        × (P.say_faults station.new ≡ P.say_faults station.old)) }
+    ensures cause { AsksToShip P.Station result station.old station.new }
 {
     // A limit is low enough for the places of gates.
     directory.bounds_hold();

@@ -1,6 +1,6 @@
 //! A standby station has a first part of a journal: what of the feed is behind it.
-ghost use Rattle.std.specs.Prelude.{◌≡◌, ◌≤◌, ◌<◌, ◌-◌, ◌^◌, ℕ, false, List, IfErr, OnOk, IsErrOf, IsOk};
-ghost use Rattle.gts_standby.specs.Cited.{IsAtFirst, IsNamed, IsWithin, KeepsCounts, LooksFor, Passes, PassesUnder, Rose, StandsOn, behind_here, held, written};
+ghost use Rattle.std.specs.Prelude.{◌≡◌, ◌≤◌, ◌<◌, ◌-◌, ◌^◌, ℕ, false, List, IfErr, OnOk, IsErrOf};
+ghost use Rattle.gts_standby.specs.Cited.{IsAtFirst, IsNamed, IsWithin, LooksAtOf, LooksFor, Passes, PassesUnder, StandsOn, behind_here, held};
 
 use crate::ShipFault;
 use crate::comparing::is_same;
@@ -35,13 +35,9 @@ fn pass_checkpoint<P: Station>(
     ensures going { OnOk result (journal.new.ended ≡ false) }
     ensures stands { P.observed → OnOk result (StandsOn (P.calls station.new) journal.new) }
     ensures version { OnOk result (journal.new.version ≡ journal.old.version) }
-    ensures told { P.observed → P.calls station.new ≡ P.calls station.old }
+    ensures looks { LooksAtOf P.Station ShipFault.DiskFault result station.old station.new }
     ensures named { IfErr result IsNamed }
-    ensures disk_fault { IsErrOf result ShipFault.DiskFault
-        → Rose (P.disk_faults station.old) (P.disk_faults station.new) }
     ensures say_fault { IsErrOf result ShipFault.SayFault → ⊥ }
-    ensures counts { KeepsCounts (IsOk result) (P.disk_faults station.old)
-        (P.disk_faults station.new) (P.say_faults station.old) (P.say_faults station.new) }
 {
     if !journal.at_checkpoint() {
         return Ok(());
@@ -69,13 +65,9 @@ fn pass_records<P: Station>(
     ensures going { OnOk result (journal.new.ended ≡ false) }
     ensures stands { P.observed → OnOk result (StandsOn (P.calls station.new) journal.new) }
     ensures version { OnOk result (journal.new.version ≡ journal.old.version) }
-    ensures told { P.observed → P.calls station.new ≡ P.calls station.old }
+    ensures looks { LooksAtOf P.Station ShipFault.DiskFault result station.old station.new }
     ensures named { IfErr result IsNamed }
-    ensures disk_fault { IsErrOf result ShipFault.DiskFault
-        → Rose (P.disk_faults station.old) (P.disk_faults station.new) }
     ensures say_fault { IsErrOf result ShipFault.SayFault → ⊥ }
-    ensures counts { KeepsCounts (IsOk result) (P.disk_faults station.old)
-        (P.disk_faults station.new) (P.say_faults station.old) (P.say_faults station.new) }
 {
     while journal.used() < stop {
         pass_next(station, journal)?;
@@ -102,13 +94,9 @@ pub(crate) fn look_for<P: Station>(
         (held journal.old.version since.now.seal)) }
     ensures going { OnOk result (journal.new.ended ≡ false) }
     ensures stands { P.observed → OnOk result (StandsOn (P.calls station.new) journal.new) }
-    ensures told { P.observed → P.calls station.new ≡ P.calls station.old }
+    ensures looks { LooksAtOf P.Station ShipFault.DiskFault result station.old station.new }
     ensures named { IfErr result IsNamed }
-    ensures disk_fault { IsErrOf result ShipFault.DiskFault
-        → Rose (P.disk_faults station.old) (P.disk_faults station.new) }
     ensures say_fault { IsErrOf result ShipFault.SayFault → ⊥ }
-    ensures counts { KeepsCounts (IsOk result) (P.disk_faults station.old)
-        (P.disk_faults station.new) (P.say_faults station.old) (P.say_faults station.new) }
 {
     pass_checkpoint(alloc, station, directory, journal)?;
     let place = since.used.saturating_sub(1);

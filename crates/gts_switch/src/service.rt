@@ -6,7 +6,7 @@ use crate::telling::tell;
 use gts_app::Status;
 use gts_real::{Cause, FileStation};
 use gts_tcp::Stop;
-use gts_traits::{Failed, JournalFile, Station};
+use gts_traits::{Channel, Failed, JournalFile, Station};
 use std::fs::File;
 use std::rt::Files;
 
@@ -118,7 +118,7 @@ impl<R: Eprint, P: Station + Causes> Station for ServiceStation<'_, R, P> {
         result
     }
 
-    fn say(&mut self, channel: u32, bytes: &[u8]) -> Result<(), Failed> {
+    fn say(&mut self, channel: Channel, bytes: &[u8]) -> Result<(), Failed> {
         let result = self.station.say(channel, bytes);
         self.looks_at_output(result.is_err());
         result

@@ -1,6 +1,7 @@
 -- What files of this crate and of those above cite of it, in one place, and what it cites of those below.
 pub mod Below
-pub use Rattle.gts_traits.specs.Counts.{HasCause, Rose, counted}
+pub use Rattle.gts_traits.specs.Counts.{HasCause, HasCauseOf, Rose, counted}
+pub use Rattle.gts_traits.specs.Asking.{AsksDisk, AsksDiskOf, AsksOutput, LooksAt, LooksAtOf}
 pub use Rattle.gts_traits.specs.Source.{Takes}
 pub use Rattle.gts_traits.specs.Sink.{Appends}
 pub use Rattle.gts_traits.specs.Calls.{Broken, Call, Cuts, Did, Doing, Outside, SaidSince, Says, Syncs, Writes, channel_bytes, on, said_by, to_say}

@@ -5,8 +5,10 @@ pub use Rattle.std.specs.Str.Parse.{AllDigits, digits_value}
 unfoldable pub use Rattle.gts_alphabet.specs.Cited.{dec}
 pub use Rattle.gts_alphabet.specs.declared.characters.TheConstants.{EOL, ETX, SOH}
 pub use Rattle.gts_alphabet.specs.declared.limits.TheConstants.{FRAME_HEAD, LONGEST_MESSAGE}
-pub use Rattle.gts_traits.specs.Cited.{Call, HasCause, Outside, Rose, SaysFront, SaysOnly, Takes, Tells, on, seen}
+pub use Rattle.gts_traits.specs.Cited.{AsksOutput, Call, HasCause, Outside, Rose, SaysFront, SaysOnly, Takes, Tells, on, seen}
 pub use Rattle.gts_traits.specs.declared.failed.Failed.{Failed}
+pub use Rattle.gts_traits.specs.declared.source.Source.{Ghosts as SourceMeanings}
+pub use Rattle.gts_traits.specs.declared.station.Station.{Ghosts as StationMeanings}
 unfoldable pub use Rattle.gts_heading.specs.Cited.{bare_group_at, bare_heading_at, heading_at}
 unfoldable pub use Rattle.gts_heading.specs.Cited.{heading_text, message_group_at, plain_heading_at}
 pub use Rattle.gts_message.specs.Cited.{message_end}
@@ -27,5 +29,6 @@ unfoldable pub use Rattle.gts_connection.specs.Cited.{readable}
 pub use Rattle.gts_connection.specs.declared.kind.CaptureKind.TheVariants.{Journaled}
 pub use Rattle.gts_connection.specs.declared.limits.TheConstants.{LONGEST_CAPTURE}
 pub use Rattle.gts_calls.specs.Cited.{Standing}
+pub use Rattle.gts_calls.specs.declared.switch.Switch.{Ghosts as SwitchMeanings}
 pub use Rattle.gts_replay.specs.Cited.{HasReplayCause, StandsFor}
 pub use Rattle.gts_replay.specs.declared.end.ReplayEnd.{ReplayEnd}

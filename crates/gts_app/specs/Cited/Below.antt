@@ -1,6 +1,6 @@
 -- What this crate says in words of what lies below it, in one place.
 pub use Rattle.std.specs.List.{AllByRecursion, filter, flat_map, slice_index_or}
-pub use Rattle.gts_traits.specs.Cited.{Breaks, Call, Did, EachSince, Files, HasCause, IsFront, IsSynced, Outside, Rose, SaidSince, Says, SaysFront, SaysOnly, Syncs, Tries, on, said_by, seen}
+pub use Rattle.gts_traits.specs.Cited.{Breaks, Call, Did, EachSince, Files, HasCause, HasCauseOf, IsFront, IsSynced, Outside, Rose, SaidSince, Says, SaysFront, SaysOnly, Syncs, Tries, on, said_by, seen}
 pub use Rattle.gts_traits.specs.declared.failed.Failed.{Failed}
 pub use Rattle.gts_traits.specs.declared.source.Source.{Ghosts as SourceMeanings}
 pub use Rattle.gts_traits.specs.declared.station.Station.{Ghosts}

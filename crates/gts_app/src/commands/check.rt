@@ -1,13 +1,12 @@
 ghost use Rattle.std.specs.Prelude.{◌≡◌};
 ghost use Rattle.gts_app.specs.Cited.{NoneFailed, TriesMigration};
 
-use crate::commands::show::OPERATOR;
 use crate::directory::{directory_file_of, old_directory_file_of};
 use crate::opening::refusal;
 use crate::{Status, World};
 use gts_directory::Change;
 use gts_report::{ReportText, changes};
-use gts_traits::{Failed, Source, Station};
+use gts_traits::{Channel, Failed, Source, Station};
 use std::alloc::Global;
 
 /// Reads the directory, and then the old one, from which it has to take over, opens the journal under that one, and says on channel 0
@@ -32,7 +31,7 @@ pub fn check<S: Source, P: Station>(alloc: Global, world: &mut World<S, S, P>) -
     if let Err(fault) = changes(alloc, &mut world.station, &old, &new, &mut text) {
         return refusal(fault);
     }
-    match world.station.say(OPERATOR, text.bytes()) {
+    match world.station.say(Channel::OPERATOR, text.bytes()) {
         Err(Failed) => Status::OutputFault,
         Ok(()) => Status::Done,
     }

@@ -2,7 +2,7 @@ ghost use Rattle.std.specs.Prelude.{◌≡◌, IfOk, IfErr, IsTrue};
 ghost use Rattle.gts_app.specs.Cited.{CountsEngine, CountsTraffic, EndsWithoutTable, Need as NeedOf, Needs, NoneFailed, ShowsTable, is_sound};
 
 use crate::commands::replay::status_of;
-use crate::commands::show::{OPERATOR, status_said};
+use crate::commands::show::status_said;
 use crate::laws::a_history_keeps_its_laws;
 use crate::opening::open_engine;
 use crate::world::Handed;
@@ -13,7 +13,7 @@ use gts_count::{Counted, counting_of};
 use gts_engine::Engine;
 use gts_event::a_start_is_its_own_need;
 use gts_replay::ReplayEnd;
-use gts_traits::{NoMemory, Source, Station};
+use gts_traits::{Channel, NoMemory, Source, Station};
 use std::alloc::Global;
 
 /// An engine that was just opened, with what is counted of its need beside it. Want of memory hands the engine back.
@@ -94,7 +94,7 @@ pub fn count<S: Source, P: Station>(alloc: Global, mut world: World<S, S, P>) ->
     match table {
         Err(status) => Ended { status, world },
         Ok(table) => {
-            let status = status_said(world.station.say(OPERATOR, table.as_slice()));
+            let status = status_said(world.station.say(Channel::OPERATOR, table.as_slice()));
             Ended { status, world }
         }
     }

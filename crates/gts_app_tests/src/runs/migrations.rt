@@ -2,7 +2,7 @@
 
 use super::stops::{Then, holds_after};
 use super::*;
-use gts_traits::{JournalFile, Station};
+use gts_traits::{Channel, JournalFile, Station};
 
 /// The same directory with a circuit more, which the rule names too.
 const LONGER: &[u8] = b"centre = \"TVSV\"\n\
@@ -62,8 +62,14 @@ fn went_on<R: AllocGlobal + Threads + Wait + Sync>(
 
 /// The bulletin was repeated under its number, and the added circuit began with 001.
 fn is_sent<R: Abort>(rt: &R, call: u64, station: &MemStation) {
-    assert!(rt; station.said(2) == FRAME, "call {call}");
-    assert!(rt; station.said(3) == ADDED, "call {call}");
+    assert!(rt;
+        station.said(Channel::of_circuit(1)) == FRAME,
+        "call {call}"
+    );
+    assert!(rt;
+        station.said(Channel::of_circuit(2)) == ADDED,
+        "call {call}"
+    );
 }
 
 #[test]

@@ -1,7 +1,7 @@
 //! The circuits served over lines in memory.
 
 use super::*;
-use gts_traits::JournalFile;
+use gts_traits::{Channel, JournalFile};
 
 /// Lines on which the neighbour on circuit 0 sends two bulletins. The listed calls of `open` fail, and the listed writes on
 /// circuit 1.
@@ -58,7 +58,11 @@ fn a_connection_that_lost_synchronisation_is_followed_by_the_next(
     lines.add(0, FRAME)?;
     let Left { status, station } = served(&rt, &words, &mut lines)?;
     assert!(rt; status == Status::Done);
-    assert!(rt; station.said(0).starts_with(b"LOS 0 Length\nACC 0 0 1 "));
+    assert!(rt;
+        station
+            .said(Channel::OPERATOR)
+            .starts_with(b"LOS 0 Length\nACC 0 0 1 ")
+    );
     assert!(rt; lines.sent(1) == FRAME);
     Ok(())
 }

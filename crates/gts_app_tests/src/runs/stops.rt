@@ -2,7 +2,7 @@
 
 use super::migrations::opens;
 use super::*;
-use gts_traits::JournalFile;
+use gts_traits::{Channel, JournalFile};
 
 /// The call in which the gate of the first bulletin is opened.
 const GATE: u64 = FIRST + 6;
@@ -25,8 +25,8 @@ fn a_bulletin_was_accepted_where_its_gate_is_open(rt: HostRuntime) -> Result<(),
         let left = crashed(&station, GATE, choice)?;
         let Left { status, station } = run_word(&rt, "replay", DRAWN, left)?;
         assert!(rt; status == Status::Done);
-        assert!(rt; station.said(0) == receipts);
-        assert!(rt; station.said(2) == FRAME);
+        assert!(rt; station.said(Channel::OPERATOR) == receipts);
+        assert!(rt; station.said(Channel::of_circuit(1)) == FRAME);
     }
     Ok(())
 }
@@ -71,7 +71,10 @@ fn are_sent_by<R: AllocGlobal + Threads + Wait + Sync + Abort>(
 ) -> Result<(), Fail> {
     let Left { status, station } = run_word(rt, "replay", REST, left)?;
     assert!(rt; status == Status::Done, "call {call}");
-    assert!(rt; are_both_sent(station.said(2)), "call {call}");
+    assert!(rt;
+        are_both_sent(station.said(Channel::of_circuit(1))),
+        "call {call}"
+    );
     Ok(())
 }
 

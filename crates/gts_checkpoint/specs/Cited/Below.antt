@@ -4,7 +4,7 @@ pub use Rattle.std.specs.List.{AllByRecursion, flat_map, fold, list_all, list_an
 pub use Rattle.std.specs.List.Sorted.{IsNonDecreasing, IsPermutation}
 pub use Rattle.std.specs.Result.{IfOk, MatchResult}
 pub use Rattle.gts_alphabet.specs.declared.limits.TheConstants.{LONGEST_BODY}
-pub use Rattle.gts_traits.specs.Cited.{Agree, Breaks, Broken, Call, Cuts, Did, Doing, EachSince, Files, HasCause, IsImage, IsImageDuring, IsPossible, IsSynced, MayLeaveAlong, Outside, Rose, Says, Syncs, Tries, Writes, overwritten, said_by, seen, stable, to_say, touched, touches}
+pub use Rattle.gts_traits.specs.Cited.{Agree, AsksDisk, AsksDiskOf, Breaks, Broken, Call, Cuts, Did, Doing, EachSince, Files, HasCause, IsImage, IsImageDuring, IsPossible, IsSynced, LooksAt, LooksAtOf, MayLeaveAlong, Outside, Rose, Says, Syncs, Tries, Writes, overwritten, said_by, seen, stable, to_say, touched, touches}
 unfoldable pub use Rattle.gts_message.specs.Cited.{body_at}
 pub use Rattle.gts_frame.specs.Cited.{letters}
 pub use Rattle.gts_frame.specs.declared.kind.Kind.{Kind}

@@ -35,13 +35,13 @@ pub use Rattle.gts_calls.specs.Desks.{LeavesFrame}
 pub use Rattle.gts_calls.specs.declared.fed.FeedEnd.{FeedEnd}
 pub use Rattle.gts_calls.specs.declared.fed.FeedEnd.TheVariants.{All, Lost, Wanting}
 pub use Rattle.gts_calls.specs.declared.given.Given.{Given}
-pub use Rattle.gts_engine.specs.Cited.{Engine, Gathers, GathersCompacted, GathersNone, GathersPlain, HearsWithRoom, IsFullCompacted, IsFullEither, IsGatheredWithRoom, IsLeft, Keeps, Origin, TakesBehind, full_with_spare, history_of, joined, meanings_of, origin_of, outcome_behind, shown, state_at, state_behind, used_at}
+pub use Rattle.gts_engine.specs.Cited.{Engine, Gathers, GathersCompacted, GathersNone, GathersPlain, HasStationCause, HearsWithRoom, IsFullCompacted, IsFullEither, IsGatheredWithRoom, IsLeft, Keeps, Origin, TakesBehind, full_with_spare, history_of, joined, meanings_of, origin_of, outcome_behind, shown, state_at, state_behind, used_at}
 pub use Rattle.gts_engine.specs.declared.mode.SayMode.TheVariants.{Caller}
-pub use Rattle.gts_receiver.specs.Cited.{AreMost, AreOver, Gives, HavePassed, IsOver, Passes, Receives, WentThroughAll, behind, events_over, fault_entries, given_before, goes_on, is_try}
-pub use Rattle.gts_receiver.specs.Receiver.{GoesThrough}
+pub use Rattle.gts_receiver.specs.Cited.{AreMost, AreOver, Gives, HasReadCause, HavePassed, IsOver, Passes, Receives, WentThroughAll, behind, events_over, fault_entries, given_before, goes_on, is_try}
+pub use Rattle.gts_receiver.specs.Receiver.{GivesOver, GoesThrough}
 pub use Rattle.gts_receiver.specs.declared.end.ReceiveEnd.{ReceiveEnd}
 pub use Rattle.gts_receiver.specs.declared.end.ReceiveEnd.TheVariants.{Long, LostSync, SourceFault}
 pub use Rattle.gts_receiver.specs.declared.limits.TheConstants.{LONGEST_CONNECTION}
-pub use Rattle.gts_sender.specs.Cited.{LineStood, Sending, Sends, TookLast, Tried, WroteGiven}
+pub use Rattle.gts_sender.specs.Cited.{HasLineCause, HasSendCause, LineStood, Sending, Sends, SinkTook, TookLast, Tried, WroteGiven}
 pub use Rattle.gts_sender.specs.declared.end.SendEnd.{SendEnd}
 pub use Rattle.gts_sender.specs.declared.end.SendEnd.TheVariants.{Fault, LineFault, Quiet}

@@ -30,7 +30,7 @@ impl<P: Station, B: Began> HasHistory for Housed<P, B> {
     ghost use Rattle.gts_circuits.specs.Housed.{Stands};
 
     ghost stands = { λ housed turns.
-        Stands P.observed P.calls P.disk_faults P.say_faults B.beginning (all_of turns) housed.engine
+        Stands P.Station B.beginning (all_of turns) housed.engine
         × (housed.makes_room ≡ B.beginning.makes_room) };
 }
 
@@ -40,7 +40,7 @@ impl<P: Station, B: Began> Listens for Housed<P, B> {
     ghost Origin = { Beginning };
 
     ghost meanings = { housed_meanings (λ housed. housed.engine) (λ housed. housed.makes_room)
-        P.observed P.calls P.disk_faults P.say_faults };
+        P.Station };
 
     ghost disk_faults = { λ housed. P.disk_faults housed.engine.station };
 
@@ -79,8 +79,8 @@ impl<P: Station, B: Began> Housed<P, B> {
     ) -> Result<Outcome, SwitchFault>
         requires circuit { c < length self.old.engine.directory.circuits }
         requires mode { self.old.makes_room ≡ B.beginning.makes_room }
-        ensures adds { Turns P.observed P.calls P.disk_faults P.say_faults B.beginning
-            (Heard c kind message.now) SaysNoMore result self.old.engine self.new.engine }
+        ensures adds { Turns P.Station B.beginning (Heard c kind message.now) SaysNoMore result
+            self.old.engine self.new.engine }
         ensures mode { self.new.makes_room ≡ self.old.makes_room }
     {
         if self.makes_room {
@@ -92,15 +92,14 @@ impl<P: Station, B: Began> Housed<P, B> {
     /// One take on circuit `c`: what it gives is left in `out`, and the station says nothing of it.
     pub fn take(&mut self, c: u32, out: &mut FrameBuf) -> Result<Outcome, SwitchFault>
         requires { c < length self.old.engine.directory.circuits }
-        ensures adds { Turns P.observed P.calls P.disk_faults P.say_faults B.beginning
-            (Taken c) (LeavesFrame B.beginning.origin.directory c out.new)
-            result self.old.engine self.new.engine }
+        ensures adds { Turns P.Station B.beginning (Taken c)
+            (LeavesFrame B.beginning.origin.directory c out.new) result
+            self.old.engine self.new.engine }
         ensures directory { self.new.engine.directory ≡ self.old.engine.directory }
         ensures mode { self.new.makes_room ≡ self.old.makes_room }
-        ensures silent { Never P.observed P.calls P.disk_faults P.say_faults B.beginning
-            SwitchFault.SayFault result self.old.engine }
-        ensures no_memory { Never P.observed P.calls P.disk_faults P.say_faults B.beginning
-            SwitchFault.NoMemory result self.old.engine }
+        ensures silent { Never P.Station B.beginning SwitchFault.SayFault result self.old.engine }
+        ensures no_memory { Never P.Station B.beginning SwitchFault.NoMemory result
+            self.old.engine }
     {
         self.engine.take(c, out, SayMode::Caller)
     }

@@ -34,9 +34,8 @@ fn leave<P: Station, B: Began, D, N: EntryFact<LinkedList<Entry>>>(
     turn: Turn<'_, Housed<P, B>>,
     _done: &D,
 ) -> Pass<Housed<P, B>>
-    requires value { (more : List EntryType) × N.fact more × Stands P.observed P.calls
-        P.disk_faults P.say_faults B.beginning (all_of (entries turn.pass.seen) ++ more)
-        turn.value.engine }
+    requires value { (more : List EntryType) × N.fact more × Stands P.Station B.beginning
+        (all_of (entries turn.pass.seen) ++ more) turn.value.engine }
     requires mode { turn.value.makes_room ≡ B.beginning.makes_room }
     ensures pass { (more : List EntryType) × N.fact more
         × (result ≡ after_adding turn.entry.pass more) }

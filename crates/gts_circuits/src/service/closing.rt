@@ -1,6 +1,6 @@
 //! Handing back the lines of all circuits.
 ghost use Rattle.std.specs.Prelude.{◌≡◌, ℕ, ◌<◌, ◌≤◌, true, length};
-ghost use Rattle.gts_circuits.specs.Cited.{Closes, IsSame, MOST_CIRCUITS, ends_of, first_fault, lines_seen as seen};
+ghost use Rattle.gts_circuits.specs.Cited.{AreClosed, IsSame, MOST_CIRCUITS, ends_of, first_fault, lines_seen as seen};
 
 use crate::ServeEnd;
 use crate::service::ended::{Incoming, Outgoing};
@@ -19,7 +19,7 @@ where
     requires few { length outgoing.items ≤ MOST_CIRCUITS }
     requires pairs { length incoming.items ≡ length outgoing.items }
     requires open { (c : ℕ) → c < length outgoing.items → L.is_open lines.old c ≡ true }
-    ensures closed { Closes L.In.Source L.Out.Sink (seen L.Lines lines.old)
+    ensures closed { AreClosed L.In.Source L.Out.Sink (seen L.Lines lines.old)
         (seen L.Lines lines.new) incoming.items outgoing.items }
     ensures others { (c : ℕ) → length outgoing.items ≤ c
         → IsSame (seen L.Lines lines.old) (seen L.Lines lines.new) c }

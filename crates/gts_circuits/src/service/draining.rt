@@ -1,8 +1,6 @@
 //! What waits once the threads have ended: it is taken through the engine itself, and written.
-ghost use Rattle.std.specs.Prelude.{◌≡◌, ℕ, ◌<◌, ◌≤◌, List, length, Err, OnOk, IfErr};
-ghost use mathlib.Core.Option.{some};
-ghost use lib.ListN.{get_elem?};
-ghost use Rattle.gts_circuits.specs.Cited.{AreDrained, Drains, LineStood, MOST_CIRCUITS, Rose, WritesAll, WritesOnce};
+ghost use Rattle.std.specs.Prelude.{◌≡◌, ◌<◌, ◌≤◌, length};
+ghost use Rattle.gts_circuits.specs.Cited.{AreDrained, Drains, HasLineCause, HasSendCause, MOST_CIRCUITS, WritesAll, WritesOnce};
 
 use crate::service::ended::Outgoing;
 use crate::{Began, Housed};
@@ -23,12 +21,7 @@ fn take_one<P: Station, B: Began, K: Sink>(
     ensures directory { housed.new.engine.directory ≡ housed.old.engine.directory }
     ensures taken { WritesOnce P.Station K.Sink B.beginning c result
         housed.old.engine housed.new.engine sink.old sink.new }
-    ensures later { K.faults sink.old ≤ K.faults sink.new }
-    ensures fault { (index : ℕ) → result ≡ Err (SendEnd.LineFault index)
-        → Rose (K.faults sink.old) (K.faults sink.new) }
-    ensures sound { OnOk result (K.faults sink.new ≡ K.faults sink.old) }
-    ensures stood { IfErr result (λ end. LineStood end
-        → K.faults sink.new ≡ K.faults sink.old) }
+    ensures cause { HasSendCause K.Sink result sink.old sink.new }
 {
     let outcome = housed.take(c, out)?;
     write_given(outcome, sink, out)
@@ -46,10 +39,7 @@ fn take_all<R: Wait, P: Station, B: Began, K: Sink>(
     ensures directory { housed.new.engine.directory ≡ housed.old.engine.directory }
     ensures taken { WritesAll P.Station K.Sink B.beginning c result
         housed.old.engine housed.new.engine sink.old sink.new }
-    ensures later { K.faults sink.old ≤ K.faults sink.new }
-    ensures fault { (index : ℕ) → result ≡ SendEnd.LineFault index
-        → Rose (K.faults sink.old) (K.faults sink.new) }
-    ensures sound { LineStood result → K.faults sink.new ≡ K.faults sink.old }
+    ensures cause { HasLineCause K.Sink result sink.old sink.new }
 {
     for _ in rt.forever() {
         match take_one(housed, c, sink, out) {
@@ -71,8 +61,8 @@ fn drain<R: Wait, P: Station, B: Began, K: Sink>(
 )
     requires { c < length housed.old.engine.directory.circuits }
     ensures directory { housed.new.engine.directory ≡ housed.old.engine.directory }
-    ensures drained { Drains P.observed P.calls P.disk_faults P.say_faults B.beginning
-        K.observed K.written K.faults c line.old line.new housed.old.engine housed.new.engine }
+    ensures drained { Drains P.Station B.beginning K.Sink c line.old line.new
+        housed.old.engine housed.new.engine }
 {
     let SendEnd::Quiet = line.end else {
         return;
@@ -89,11 +79,10 @@ pub(crate) fn drain_all<R: Wait, P: Station, B: Began, K: Sink>(
 )
     requires few { length lines.old.items ≤ MOST_CIRCUITS }
     requires circuits { length lines.old.items ≤ length B.beginning.origin.directory.circuits }
-    requires stands { AreDrained P.observed P.calls P.disk_faults P.say_faults B.beginning
-        K.observed K.written K.faults pass.now.seen lines.old.items 0 housed.old.engine }
-    ensures drained { AreDrained P.observed P.calls P.disk_faults P.say_faults B.beginning
-        K.observed K.written K.faults pass.now.seen lines.new.items (length lines.old.items)
-        housed.new.engine }
+    requires stands { AreDrained P.Station B.beginning K.Sink pass.now.seen lines.old.items 0
+        housed.old.engine }
+    ensures drained { AreDrained P.Station B.beginning K.Sink pass.now.seen lines.new.items
+        (length lines.old.items) housed.new.engine }
     ensures count { length lines.new.items ≡ length lines.old.items }
 {
     let _ = pass;

@@ -2,7 +2,7 @@
 ghost use Rattle.std.specs.Prelude.{◌≡◌, ℕ, ◌+◌, ◌<◌, ◌≤◌, [], true, length, map, vec_capacity, OnOk, IfErr};
 ghost use mathlib.Core.Option.{some};
 ghost use lib.ListN.{get_elem?};
-ghost use Rattle.gts_circuits.specs.Cited.{AreClosedUnused, IsSame, MOST_CIRCUITS, OpensFirst, Rose, Sockets as SocketsOf, lines_seen as seen, place_asked};
+ghost use Rattle.gts_circuits.specs.Cited.{AreClosedUnused, AreOpened, IsSame, MOST_CIRCUITS, Rose, Sockets as SocketsOf, lines_seen as seen, place_asked};
 
 use crate::service::room::CircuitRoom;
 use crate::workers::sockets::Sockets;
@@ -18,11 +18,11 @@ pub(crate) fn open_all<L: Lines>(
     requires few { length rooms.items ≤ MOST_CIRCUITS }
     requires empty { sockets.old.items ≡ [] }
     requires room { length rooms.items ≤ vec_capacity sockets.old }
-    ensures opened { OnOk result (OpensFirst L.In.Source L.Out.Sink (seen L.Lines lines.old)
+    ensures opened { OnOk result (AreOpened L.In.Source L.Out.Sink (seen L.Lines lines.old)
         (seen L.Lines lines.new) (map place_asked rooms.items) connections sockets.new.items
         (length sockets.new.items)) }
     ensures count { OnOk result (length sockets.new.items ≡ length rooms.items) }
-    ensures stopped { IfErr result (λ c. OpensFirst L.In.Source L.Out.Sink
+    ensures stopped { IfErr result (λ c. AreOpened L.In.Source L.Out.Sink
         (seen L.Lines lines.old) (seen L.Lines lines.new)
         (map place_asked rooms.items) connections sockets.new.items (c + 1)) }
     ensures place { IfErr result (λ c. (length sockets.new.items ≡ c)
@@ -61,8 +61,8 @@ where
     requires few { length sockets.items ≤ MOST_CIRCUITS }
     requires open { (c : ℕ) (x : SocketsOf L.In L.Out) → get_elem? sockets.items c ≡ some x
         → L.is_open lines.old c ≡ true }
-    ensures closed { AreClosedUnused L.In.observed L.In.begun L.In.left L.In.faults L.Out.observed
-        L.Out.written L.Out.faults (seen L.Lines lines.old) (seen L.Lines lines.new) sockets.items }
+    ensures closed { AreClosedUnused L.In.Source L.Out.Sink (seen L.Lines lines.old)
+        (seen L.Lines lines.new) sockets.items }
     ensures others { (c : ℕ) → length sockets.items ≤ c
         → IsSame (seen L.Lines lines.old) (seen L.Lines lines.new) c }
 {

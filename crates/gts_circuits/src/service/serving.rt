@@ -1,7 +1,7 @@
 ghost use Rattle.std.specs.Prelude.{◌≡◌, ℕ, ◌*◌, ◌<◌, ◌≤◌, [], true, length, map, Some, None, vec_capacity};
 ghost use mathlib.Core.Option.{some};
 ghost use lib.ListN.{get_elem?};
-ghost use Rattle.gts_circuits.specs.Cited.{AreDrained, Finishes, IsServed, Line as LineOf, MOST_CIRCUITS, Stands, first_pass, has_end, incoming_of, lines_seen as seen, outgoing_of, place_asked, place_of};
+ghost use Rattle.gts_circuits.specs.Cited.{AreDrained, IsFinished, IsServed, Line as LineOf, MOST_CIRCUITS, Stands, first_pass, has_end, incoming_of, lines_seen as seen, outgoing_of, place_asked, place_of};
 ghost use Rattle.gts_receiver.specs.Service as service;
 
 use crate::service::closing::close_all;
@@ -62,12 +62,11 @@ where
     requires empty { (incoming.items ≡ []) × (outgoing.items ≡ []) }
     requires room { (length ran.lines.items ≤ vec_capacity incoming)
         × (length ran.lines.items ≤ vec_capacity outgoing) }
-    requires stands { AreDrained P.observed P.calls P.disk_faults P.say_faults B.beginning
-        L.Out.observed L.Out.written L.Out.faults ran.pass.seen (outgoing_of ran.lines.items) 0
-        ran.housed.engine }
+    requires stands { AreDrained P.Station B.beginning L.Out.Sink ran.pass.seen
+        (outgoing_of ran.lines.items) 0 ran.housed.engine }
     requires open { (c : ℕ) → c < length (outgoing_of ran.lines.items)
         → L.is_open lines.old c ≡ true }
-    ensures finished { Finishes P.Station B.beginning L.In.Source L.Out.Sink
+    ensures finished { IsFinished P.Station B.beginning L.In.Source L.Out.Sink
         (seen L.Lines lines.old) (seen L.Lines lines.new)
         ran.pass.seen ran.lines.items result.end result.engine }
     ensures pass { result.pass ≡ Some ran.pass }
@@ -121,9 +120,9 @@ where
     requires sockets { length room.rooms.items ≤ vec_capacity room.sockets }
     requires lines { (2 * length room.rooms.items ≤ vec_capacity room.incoming)
         × (2 * length room.rooms.items ≤ vec_capacity room.outgoing) }
-    ensures { IsServed P.observed P.calls P.disk_faults P.say_faults B.beginning
-        L.In.Source L.Out.observed connections (seen L.Lines lines.old)
-        (seen L.Lines lines.new) result.pass result.end result.engine }
+    ensures { IsServed P.Station B.beginning L.In.Source L.Out.observed connections
+        (seen L.Lines lines.old) (seen L.Lines lines.new)
+        result.pass result.end result.engine }
 {
     let circuits = room.rooms.len();
     let bells = RunBell::new(circuits as u64);
@@ -174,10 +173,10 @@ where
     G: Gate,
     requires some { 1 ≤ connections }
     requires mode { B.beginning.makes_room ≡ service.goes_on connections }
-    requires stands { Stands P.observed P.calls P.disk_faults P.say_faults B.beginning [] engine }
-    ensures { IsServed P.observed P.calls P.disk_faults P.say_faults B.beginning
-        L.In.Source L.Out.observed connections (seen L.Lines lines.old)
-        (seen L.Lines lines.new) result.pass result.end result.engine }
+    requires stands { Stands P.Station B.beginning [] engine }
+    ensures { IsServed P.Station B.beginning L.In.Source L.Out.observed connections
+        (seen L.Lines lines.old) (seen L.Lines lines.new)
+        result.pass result.end result.engine }
 {
     let Ok(room) = room_for(alloc, engine.directory()) else {
         return unserved(engine, ServeEnd::NoMemory);

@@ -1,6 +1,6 @@
 //! Closing the hall behind all workers.
 ghost use Rattle.std.specs.Prelude.{◌≡◌, ◌*◌, ◌≤◌, [], Some, List, true, length};
-ghost use Rattle.gts_circuits.specs.Cited.{AllJoined, Ended, LinesStand, MOST_TURNS, NamesAreUpTo, Sockets as SocketsOf, Stands, entries, flat};
+ghost use Rattle.gts_circuits.specs.Cited.{AllJoined, HaveEnded, LinesStand, MOST_TURNS, NamesAreUpTo, Sockets as SocketsOf, Stands, entries, flat};
 
 use crate::workers::line::Line;
 use crate::{Began, Housed};
@@ -31,13 +31,13 @@ where
     requires joined { AllJoined first }
 
     // There is one history of all threads, which the engine stands for, and each line for its part of it.
-    ensures engine { Stands P.observed P.calls P.disk_faults P.say_faults B.beginning
+    ensures engine { Stands P.Station B.beginning
         (entries (flat result.pass.seen)) result.housed.engine }
     ensures kept { result.lines ≡ lines }
-    ensures lines { (sockets : List (SocketsOf S K)) → Ended B.beginning S.Source K.Sink
+    ensures lines { (sockets : List (SocketsOf S K)) → HaveEnded B.beginning S.Source K.Sink
         hall sockets first lines.items → LinesStand B.beginning S.Source K.Sink
         hall sockets result.pass.seen result.lines.items }
-    ensures names { (sockets : List (SocketsOf S K)) → Ended B.beginning S.Source K.Sink
+    ensures names { (sockets : List (SocketsOf S K)) → HaveEnded B.beginning S.Source K.Sink
         hall sockets first lines.items → NamesAreUpTo (2 * length sockets) result.pass.seen }
     ensures full { result.pass.full ≡ true → length result.pass.seen ≡ MOST_TURNS }
     ensures few { length result.pass.seen ≤ MOST_TURNS }

@@ -1,7 +1,7 @@
 ghost use Rattle.std.specs.Prelude.{◌≡◌, ◌≤◌, ℕ, [], Some, length, vec_capacity};
 ghost use mathlib.Core.Option.{some};
 ghost use lib.ListN.{get_elem?};
-ghost use Rattle.gts_circuits.specs.Cited.{Gathered, Work};
+ghost use Rattle.gts_circuits.specs.Cited.{AreGathered, Work};
 
 use crate::workers::line::Line;
 use crate::workers::worker::Worker;
@@ -29,7 +29,7 @@ where
     ensures hall { (result.hall ≡ Some hall.now) × (result.name ≡ 0) }
     ensures pass { (result.parted ≡ first.parted) × (result.own ≡ first.own) }
     ensures joined { length result.joined ≡ length workers.entry.items }
-    ensures gathered { Gathered B.beginning S.Source K.Sink
+    ensures gathered { AreGathered B.beginning S.Source K.Sink
         result lines.new.items (length workers.entry.items) workers.entry.items }
     ensures count { length lines.new.items ≡ length workers.entry.items }
 {

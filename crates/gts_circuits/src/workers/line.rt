@@ -1,3 +1,6 @@
+ghost use Rattle.std.specs.Prelude.{◌≡◌};
+ghost use Rattle.gts_circuits.specs.Working.{has_end};
+
 use gts_calls::Given;
 use gts_frame::Decoder;
 use gts_receiver::ReceiveEnd;
@@ -19,4 +22,16 @@ pub enum Line<S, K> {
         given: Given,
         end: Option<SendEnd>,
     },
+}
+
+impl<S, K> Line<S, K> {
+    /// Whether its worker has come to an end.
+    pub(crate) fn has_end(&self) -> bool
+        ensures { result ≡ has_end self.now }
+    {
+        match self {
+            Line::Incoming { end, .. } => end.is_some(),
+            Line::Outgoing { end, .. } => end.is_some(),
+        }
+    }
 }

@@ -1,7 +1,7 @@
 ghost use Rattle.std.specs.Prelude.{◌≡◌, ℕ, ◌≤◌, ◌*◌, [], Some, length};
 ghost use mathlib.Core.Option.{some};
 ghost use lib.ListN.{get_elem?};
-ghost use Rattle.gts_circuits.specs.Cited.{AllJoined, Ended, MOST_CIRCUITS, Sockets as SocketsOf, first_pass};
+ghost use Rattle.gts_circuits.specs.Cited.{AllJoined, HaveEnded, MOST_CIRCUITS, Sockets as SocketsOf, first_pass};
 
 use crate::workers::crew::Crew;
 use crate::workers::gathering::gather;
@@ -44,7 +44,7 @@ where
     ensures first { (result.0.name ≡ 0) × (result.0.own ≡ []) }
     ensures joined { AllJoined result.0 }
     ensures count { length result.1.items ≡ 2 * length sockets.items }
-    ensures ended { Ended B.beginning S.Source K.Sink hall.now sockets.items
+    ensures ended { HaveEnded B.beginning S.Source K.Sink hall.now sockets.items
         result.0 result.1.items }
 {
     let Crew {

@@ -39,8 +39,8 @@ impl<'a, P: Station, B: Began, S: Connections, K: Sink> Model for Worker<'a, P, 
     ghost view = { λ w. record { circuit = w.circuit; hall = w.hall.now; first = socket_of w.first.value; ended = has_end w.line } };
 
     ghost invariant = { λ w. (w.circuit < MOST_CIRCUITS)
-        × WorkerKeeps B.beginning S.observed S.begun S.left S.faults K.observed K.written K.faults
-        w.circuit w.hall.now (socket_of w.first.value) w.line w.pass };
+        × WorkerKeeps B.beginning S.Source K.Sink w.circuit w.hall.now (socket_of w.first.value)
+        w.line w.pass };
 }
 
 /// Receives so many connections of a circuit at a desk, and gives the desk's pass.
@@ -57,9 +57,8 @@ fn receive_at<R: Wait, P: Station, B: Began, S: Connections, G: Gate>(
     ensures hall { result.0.hall ≡ desk.entry.hall }
     ensures name { result.0.name ≡ desk.entry.name }
     ensures own { KnowsOwn result.0 }
-    ensures keeps { ReceiverKeeps S.observed S.begun S.left S.faults c connections
-        source.old source.new (seen_by B.beginning desk.entry) (seen_by B.beginning result.0)
-        result.1 }
+    ensures keeps { ReceiverKeeps S.Source c connections source.old source.new
+        (seen_by B.beginning desk.entry) (seen_by B.beginning result.0) result.1 }
 {
     let mut room = [0; PIECE];
     let mut desk = desk;
@@ -82,7 +81,7 @@ fn send_at<R: Wait, P: Station, B: Began, K: Sink, G: Gate>(
     ensures hall { result.0.hall ≡ desk.entry.hall }
     ensures name { result.0.name ≡ desk.entry.name }
     ensures own { KnowsOwn result.0 }
-    ensures keeps { SenderKeeps K.observed K.written K.faults c sink.old sink.new
+    ensures keeps { SenderKeeps K.Sink c sink.old sink.new
         (seen_by B.beginning desk.entry) (seen_by B.beginning result.0) result.1 }
 {
     let mut desk = desk;
@@ -92,7 +91,7 @@ fn send_at<R: Wait, P: Station, B: Began, K: Sink, G: Gate>(
 
 impl<'a, P: Station, B: Began, S: Connections, K: Sink> Worker<'a, P, B, S, K> {
     ghost use Rattle.std.specs.Prelude.{◌≡◌, ◌<◌, ◌≤◌, true, length};
-    ghost use Rattle.gts_circuits.specs.Cited.{HasKept, KnowsOwn, MOST_CIRCUITS, Reads, Writes, begun, fresh, has_end, receiver_name, seen_by, sender_name};
+    ghost use Rattle.gts_circuits.specs.Cited.{KnowsOwn, MOST_CIRCUITS, PassKeeps, Reads, Writes, begun, fresh, has_end, receiver_name, seen_by, sender_name};
 
     /// The receiver of a circuit, over so many connections, with a pass that has seen nothing.
     pub fn receiver(
@@ -163,7 +162,7 @@ impl<'a, P: Station, B: Began, S: Connections, K: Sink> Worker<'a, P, B, S, K> {
 
     /// The pass and the line, with all that is known of them.
     pub fn finish(self) -> (Pass<Housed<P, B>>, Line<S, K>)
-        ensures keeps { HasKept B.beginning S.Source K.Sink
+        ensures keeps { PassKeeps B.beginning S.Source K.Sink
             self.entry.circuit self.entry.hall self.entry.first result.1 result.0 }
         ensures ended { has_end result.1 ≡ self.entry.ended }
     {
@@ -183,6 +182,9 @@ impl<'a, P: Station, B: Began, S: Connections, K: Sink> Worker<'a, P, B, S, K> {
     pub fn work<R: Wait, G: Gate>(&mut self, tools: &Tools<'_, R, G>)
         ensures { self.new ≡ record self.old { ended = true } }
     {
+        if self.line.has_end() {
+            return;
+        }
         let Some(pass) = self.pass.take() else {
             unreachable!()
         };
@@ -193,6 +195,7 @@ impl<'a, P: Station, B: Began, S: Connections, K: Sink> Worker<'a, P, B, S, K> {
             hall: self.hall,
             bells: self.bells.bells(),
         };
+        let desk = HallDesk::new(at, self.bells.room(), pass);
         match &mut self.line {
             Line::Incoming {
                 source,
@@ -200,11 +203,6 @@ impl<'a, P: Station, B: Began, S: Connections, K: Sink> Worker<'a, P, B, S, K> {
                 decoder,
                 end,
             } => {
-                if end.is_some() {
-                    self.pass = Some(pass);
-                    return;
-                }
-                let desk = HallDesk::new(at, self.bells.room(), pass);
                 let many = *connections;
                 let (pass, how) = receive_at(desk, self.circuit, source, many, decoder, gate);
                 *end = Some(how);
@@ -212,11 +210,6 @@ impl<'a, P: Station, B: Began, S: Connections, K: Sink> Worker<'a, P, B, S, K> {
                 self.bells.leave();
             }
             Line::Outgoing { sink, given, end } => {
-                if end.is_some() {
-                    self.pass = Some(pass);
-                    return;
-                }
-                let desk = HallDesk::new(at, self.bells.room(), pass);
                 let bell = self.bells.bells().bell(self.circuit);
                 let (pass, how) = send_at(rt, desk, self.circuit, sink, given, bell, gate);
                 *end = Some(how);

@@ -44,4 +44,4 @@ pub use Rattle.gts_event.specs.declared.outcome.Outcome.TheVariants.{Accepted, A
 pub use Rattle.gts_event.specs.declared.outcome.Refusal.TheVariants.{Message}
 pub use Rattle.gts_record.specs.declared.fault.OpenFault.{OpenFault}
 pub use Rattle.gts_opening.specs.Cited.{HasDoubt, HasUnsaid, IsAccepted}
-pub use Rattle.gts_calls.specs.Cited.{AfterCall, AfterSettling, Alone, AtOnce, Behind, GathersOne, HasCallCause, HasReopenCause, IsAnswerCause, IsAnswered, IsCompacting, IsCutShort, IsInDoubt, IsOneMore, IsReopening, IsSettling, LeavesFrame, MayLeave, Standing, outcome_at, restart_of, settled}
+pub use Rattle.gts_calls.specs.Cited.{AfterCall, AfterSettling, Alone, AtOnce, Behind, CountsCall, CountsReopening, GathersOne, IsAnswerCause, IsAnswered, IsCompacting, IsCutShort, IsInDoubt, IsOneMore, IsReopening, IsSettling, LeavesFrame, MayLeave, Standing, outcome_at, restart_of, settled}

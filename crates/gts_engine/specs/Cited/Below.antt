@@ -1,7 +1,8 @@
 -- What this crate says in words of what lies below it, in one place.
 pub use Rattle.std.specs.List.{AllByRecursion, last_or, list_all, slice_index_or}
 pub use Rattle.gts_alphabet.specs.declared.limits.TheConstants.{CHANNELS, LONGEST_BODY, LONGEST_FRAME, MOST_CIRCUITS}
-pub use Rattle.gts_traits.specs.Cited.{Call, Did, EachSince, Files, IsFront, IsImage, MayLeaveAlong, Outside, Rose, SaidSince, Says, Syncs, Tries, channel_bytes, on, said_by, seen, stable}
+pub use Rattle.gts_traits.specs.Cited.{AsksDisk, AsksDiskOf, AsksOutput, Call, Did, EachSince, Files, IsFront, IsImage, MayLeaveAlong, Outside, Rose, SaidSince, Says, Syncs, Tries, channel_bytes, on, said_by, seen, stable}
+pub use Rattle.gts_traits.specs.declared.station.Station.{Ghosts as StationMeanings}
 pub use Rattle.gts_heading.specs.Cited.{HeadingFields, fields_of}
 pub use Rattle.gts_heading.specs.declared.field.MessageField.{MessageField}
 pub use Rattle.gts_message.specs.Cited.{MessageParts, parts_of}

@@ -6,9 +6,10 @@ pub use Rattle.std.specs.Str.Parse.{digits_value}
 pub use Rattle.gts_alphabet.specs.Cited.{message_of}
 unfoldable pub use Rattle.gts_alphabet.specs.Cited.{dec}
 pub use Rattle.gts_alphabet.specs.declared.characters.TheConstants.{EOL, SOH}
-pub use Rattle.gts_alphabet.specs.declared.limits.TheConstants.{CHANNELS}
-pub use Rattle.gts_traits.specs.Cited.{Call, HasCause, Outside, Rose, SaysFront, SaysOnly, Tells, on}
+pub use Rattle.gts_traits.specs.Cited.{AsksOutput, Call, Outside, Rose, SaysFront, SaysOnly, Tells, on}
 pub use Rattle.gts_traits.specs.declared.failed.Failed.{Failed}
+pub use Rattle.gts_traits.specs.declared.source.Source.{Ghosts as SourceMeanings}
+pub use Rattle.gts_traits.specs.declared.station.Station.{Ghosts as StationMeanings}
 pub use Rattle.gts_heading.specs.Cited.{HeadingFields, are_capitals, capitals_at}
 unfoldable pub use Rattle.gts_heading.specs.Cited.{bare_group_at, bare_heading_at, heading_at}
 unfoldable pub use Rattle.gts_heading.specs.Cited.{heading_text, message_group_at, plain_heading_at}

@@ -3,7 +3,7 @@ pub use Rattle.std.specs.Borrow.{sem}
 pub use Rattle.std.specs.Cmp.Lexicographic.{pointwise}
 pub use Rattle.std.specs.List.{starts_with}
 pub use Rattle.gts_alphabet.specs.declared.limits.TheConstants.{LONGEST_BODY}
-pub use Rattle.gts_traits.specs.Cited.{Answer, Breaks, Call, Cuts, Did, EachSince, Files, HasCause, IsImage, IsPossible, IsSynced, IsTorn, OnlyTears, Outside, Rose, Says, Syncs, Tries, Writes, overwritten, said_by, seen}
+pub use Rattle.gts_traits.specs.Cited.{Answer, AsksDisk, AsksDiskOf, Breaks, Call, Cuts, Did, EachSince, Files, HasCause, IsImage, IsPossible, IsSynced, IsTorn, LooksAt, LooksAtOf, OnlyTears, Outside, Rose, Says, Syncs, Tries, Writes, overwritten, said_by, seen}
 pub use Rattle.gts_frame.specs.declared.kind.Kind.TheVariants.{An, Bi, Fx}
 pub use Rattle.gts_directory.specs.Cited.{Directory}
 pub use Rattle.gts_event.specs.Cited.{Need, State, after, empty, need, restarted}

@@ -1,7 +1,8 @@
 -- What this crate says in words of what lies below it, in one place.
 pub use Rattle.std.specs.List.{enumerate_from, find, flat_map, list_all, sum_by}
 pub use Rattle.std.specs.List.Sorted.{IsNonDecreasing}
-pub use Rattle.gts_traits.specs.Cited.{Call, Did, EachSince, Files, IsFront, IsImage, IsSynced, Outside, Rose, SaidSince, Says, Syncs, Tries, on, said_by, seen}
+pub use Rattle.gts_traits.specs.Cited.{AsksDiskOf, Call, Did, EachSince, Files, IsFront, IsImage, IsSynced, Outside, Rose, SaidSince, Says, Syncs, Tries, on, said_by, seen}
+pub use Rattle.gts_traits.specs.declared.station.Station.{Ghosts as StationMeanings}
 pub use Rattle.gts_heading.specs.Cited.{HeadingFields, fields_of}
 unfoldable pub use Rattle.gts_heading.specs.Cited.{heading_text}
 unfoldable pub use Rattle.gts_message.specs.Cited.{body_at}

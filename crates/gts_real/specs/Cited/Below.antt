@@ -1,3 +1,2 @@
 -- What this crate says in words of what lies below it, in one place.
-pub use Rattle.gts_alphabet.specs.declared.limits.TheConstants.{CHANNELS}
 pub use Rattle.gts_traits.specs.Cited.{HasCause}

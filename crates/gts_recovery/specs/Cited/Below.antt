@@ -2,7 +2,7 @@
 pub use Rattle.std.specs.Cmp.Lexicographic.{pointwise}
 pub use Rattle.std.specs.List.{AllByRecursion, enumerate_from, list_all, list_any, range_with_len, starts_with, sum_by}
 pub use Rattle.gts_alphabet.specs.Cited.{message_of}
-pub use Rattle.gts_traits.specs.Cited.{Call, Did, Files, Rose, Syncs, seen}
+pub use Rattle.gts_traits.specs.Cited.{AsksDiskOf, Call, Did, Files, LooksAtOf, Rose, Syncs, seen}
 pub use Rattle.gts_heading.specs.Cited.{HeadingFields}
 pub use Rattle.gts_heading.specs.declared.field.MessageField.{MessageField}
 pub use Rattle.gts_message.specs.Cited.{MessageParts}

@@ -4,6 +4,7 @@ pub use Rattle.std.specs.Int.{is_in_range}
 pub use Rattle.std.specs.List.{AllByRecursion, flat_map}
 unfoldable pub use Rattle.gts_alphabet.specs.Cited.{dec}
 pub use Rattle.gts_traits.specs.Cited.{HasCause, Rose}
+pub use Rattle.gts_traits.specs.declared.source.Source.{Ghosts as SourceMeanings}
 pub use Rattle.gts_frame.specs.Cited.{Decoding, fresh, held_in}
 pub use Rattle.gts_directory.specs.Cited.{Circuit, Directory}
 pub use Rattle.gts_event.specs.Cited.{Choice, CircuitState, Draws, EachOwedFew, EachRoutedOnce, IsOrdered, Nothing_waits, Repeats, RoutedOnce, State, after, after_all, after_take, all_done, all_unsaid, choice, draws, idle, keeps_one, left_to_give, most_owed, next, on_circuit, outcome, takes_of_drain, with_drawn, with_repeated}
@@ -23,4 +24,5 @@ pub use Rattle.gts_connection.specs.declared.kind.CaptureKind.{CaptureKind}
 pub use Rattle.gts_connection.specs.declared.kind.CaptureKind.TheVariants.{Journaled, Traffic}
 pub use Rattle.gts_connection.specs.declared.limits.TheConstants.{LONGEST_CAPTURE}
 pub use Rattle.gts_opening.specs.Cited.{HasDoubt, HasUnsaid, done_by}
-pub use Rattle.gts_calls.specs.Cited.{AfterSettling, BreaksIdle, BreaksOff, BreaksTogether, Goes, HasCallCause, IsAnswered, IsCause, IsCompactCause, IsCompacting, IsReopenFault, IsReopening, IsSettling, Standing, Stands, answer_of, outcome_at, restart_of, settled}
+pub use Rattle.gts_calls.specs.Cited.{AfterSettling, BreaksIdle, BreaksOff, BreaksTogether, CountsCall, Goes, IsAnswered, IsCause, IsCompactCause, IsCompacting, IsReopenFault, IsReopening, IsSettling, Standing, Stands, answer_of, outcome_at, restart_of, settled}
+pub use Rattle.gts_calls.specs.declared.switch.Switch.{Ghosts as SwitchMeanings}

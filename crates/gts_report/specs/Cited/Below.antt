@@ -9,7 +9,7 @@ pub use Rattle.std.specs.declared.cmp.Ordering.{Ordering}
 pub use Rattle.std.specs.declared.cmp.Ordering.TheVariants.{Equal, Greater, Less}
 unfoldable pub use Rattle.gts_alphabet.specs.Cited.{dec}
 pub use Rattle.gts_alphabet.specs.declared.limits.TheConstants.{MOST_CIRCUITS}
-pub use Rattle.gts_traits.specs.Cited.{Did, Rose, Syncs, seen}
+pub use Rattle.gts_traits.specs.Cited.{AsksDiskOf, Did, Syncs, seen}
 pub use Rattle.gts_heading.specs.Cited.{HeadingFields, fields_of, with_group}
 unfoldable pub use Rattle.gts_heading.specs.Cited.{bare_group_at, bare_heading_at, heading_at}
 unfoldable pub use Rattle.gts_heading.specs.Cited.{heading_text, message_group_at, plain_heading_at}

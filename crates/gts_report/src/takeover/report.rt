@@ -1,5 +1,5 @@
-ghost use Rattle.std.specs.Prelude.{◌≡◌, ◌≢◌, ◌≤◌, ◌∷◌, ◌++◌, ℕ, Ok, IfOk, IfErr, OnOk, OnErr, IsErrOf, IsTrue};
-ghost use Rattle.gts_report.specs.Cited.{Did, IsAnswer, OnlySyncs, Rose, State, Syncs, TakesOver, files_open_any, is_sound, need as need_at, need_of, opens_any, refusal, seen};
+ghost use Rattle.std.specs.Prelude.{◌≡◌, ◌≢◌, ◌∷◌, ◌++◌, ℕ, Ok, IfOk, IfErr, OnOk, OnErr, IsTrue};
+ghost use Rattle.gts_report.specs.Cited.{AsksDiskOf, Did, IsAnswer, OnlySyncs, State, Syncs, TakesOver, files_open_any, is_sound, need as need_at, need_of, opens_any, refusal, seen};
 ghost use Rattle.gts_report.specs.Changes as report;
 
 use crate::ReportText;
@@ -97,11 +97,7 @@ pub fn changes<P: Station>(
         (opens_any old.now (seen (P.calls station.old)))) }
     ensures never_older { P.observed → IfErr result (λ e. e ≢ OpenFault.OldVersion) }
     ensures told { P.observed → OnlySyncs (P.calls station.old) (P.calls station.new) }
-    ensures disk_fault { IsErrOf result OpenFault.DiskFault
-        → Rose (P.disk_faults station.old) (P.disk_faults station.new) }
-    ensures later { P.disk_faults station.old ≤ P.disk_faults station.new }
-    ensures sound { OnOk result (P.disk_faults station.new ≡ P.disk_faults station.old) }
-    ensures say { P.say_faults station.new ≡ P.say_faults station.old }
+    ensures cause { AsksDiskOf P.Station OpenFault.DiskFault result station.old station.new }
 {
     let trial = try_over(alloc, station, old.directory(), new.directory())?;
     let report = whole(alloc, old, new, &trial)?;

@@ -1,6 +1,7 @@
 -- What this crate says in words of what lies below it, in one place.
 pub use Rattle.std.specs.List.{slice_index_or}
-pub use Rattle.gts_traits.specs.Cited.{IsFront, Rose}
+pub use Rattle.gts_traits.specs.Cited.{HasCause, IsFront, Rose}
+pub use Rattle.gts_traits.specs.declared.sink.Sink.{Ghosts as SinkMeanings}
 pub use Rattle.gts_directory.specs.Cited.{Directory}
 pub use Rattle.gts_event.specs.Cited.{Choice, Draws, Nothing_waits, Repeats, State, after, after_all, begun, choice, frame_of_draw, outcome}
 pub use Rattle.gts_event.specs.declared.event.Entry.{Entry}

@@ -2,7 +2,7 @@
 pub use Rattle.std.specs.Cmp.Lexicographic.{pointwise, same_text}
 pub use Rattle.std.specs.List.{AllByRecursion, flat_map, list_all, list_any, slice_index_or, starts_with}
 pub use Rattle.gts_alphabet.specs.declared.limits.TheConstants.{LONGEST_BODY}
-pub use Rattle.gts_traits.specs.Cited.{Call, Did, EachSince, Files, IsImage, Outside, Rose, SaidSince, SaysFront, SaysOnly, Syncs, Tries, on, said_by, seen}
+pub use Rattle.gts_traits.specs.Cited.{AsksDisk, AsksDiskOf, AsksOutput, Call, Did, EachSince, Files, IsImage, LooksAtOf, Outside, Rose, SaidSince, SaysFront, SaysOnly, Syncs, Tries, on, said_by, seen}
 pub use Rattle.gts_frame.specs.declared.kind.Kind.{Kind}
 pub use Rattle.gts_frame.specs.declared.kind.Kind.TheVariants.{An, Bi, Fx}
 pub use Rattle.gts_directory.specs.Cited.{Directory}

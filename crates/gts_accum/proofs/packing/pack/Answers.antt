@@ -30,7 +30,7 @@ returns-in-Ok-eq0-clause-files g c =
 
 pub returns-in-Ok-eq0-clause-source : goal.returns-in-Ok-eq0-clause-source
 returns-in-Ok-eq0-clause-source g c =
-    let still : g.S.Source.faults c.read.new.self ≡ g.S.Source.faults c.args.stream.now = c.in-Ok-eq0.ensures.sound ∙ c.loop-decoder.invariant.read in
+    let still : g.S.Source.faults c.read.new.self ≡ g.S.Source.faults c.args.stream.now = c.in-Ok-eq0.ensures.cause.sound ∙ c.loop-decoder.invariant.read in
     record { later = omega (arith, still); failed = λ e. absurd (c.finish.ensures.read.0 e); still = λ _. still }
 
 pub returns-in-Ok-eq0-clause-unmade : goal.returns-in-Ok-eq0-clause-unmade
@@ -144,7 +144,7 @@ loop-decoder-preserved g c =
         stands,
       );
       short = omega (arith, c.min-room.ensures, c.if-room-count.false, c.loop-decoder.invariant.short);
-      read = c.in-Ok-read.ensures.sound ∙ c.loop-decoder.invariant.read;
+      read = c.in-Ok-read.ensures.cause.sound ∙ c.loop-decoder.invariant.read;
       say = c.in-Ok-take_piece.ensures.cause.sound ∙ c.loop-decoder.invariant.say;
-      disk = c.take_piece.ensures.disk ∙ c.loop-decoder.invariant.disk;
+      disk = c.take_piece.ensures.cause.disk ∙ c.loop-decoder.invariant.disk;
     }

@@ -47,6 +47,6 @@ loop-rest-preserved g c =
             c.loop-rest.decoder next (taken.3 first before stands) is c.in_default.not-Lost
             (λ t. subst (λ (m : List ℕ). T m (Ok c.in_default-say_step.field-0)) c.message.ensures (subst (T c.message.result.now) c.in_default-say_step.is (c.say_step.ensures.told t)))),
       );
-      sound = c.in_default-say_step.ensures.sound ∙ c.loop-rest.invariant.sound;
-      disk = c.say_step.ensures.disk ∙ c.loop-rest.invariant.disk;
+      sound = c.in_default-say_step.ensures.cause.sound ∙ c.loop-rest.invariant.sound;
+      disk = c.say_step.ensures.cause.disk ∙ c.loop-rest.invariant.disk;
     }

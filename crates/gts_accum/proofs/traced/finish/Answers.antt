@@ -35,5 +35,5 @@ loop-preserved g c =
           let k = c.loop.invariant.passes observed in
           (k.0 ++ given, passes-both left c.args.unpacked.now c.loop.unpacked c.read.new.self k.0 given k.1 (c.in_ok-read.ensures.passes observed));
       due = c.read.ensures.due;
-      sound = c.in_ok-read.ensures.sound ∙ c.loop.invariant.sound;
+      sound = c.in_ok-read.ensures.cause.sound ∙ c.loop.invariant.sound;
     }

@@ -58,7 +58,7 @@ returns-clause-cause g c =
           subst A (sym (c.into_inner.ensures.source ∙ ap (λ t. t.source) w.traced-is))
           (subst B (sym w.end-is)
           (cause-cut c.replay.result w.end_of_file-end.result _ _ _ _ before (faults c.replay.new.capture.source) (faults w.end_of_file-end.new.traced.source) run
-          (subst IsUnfailed (sym w.in-Capture.is) tt) w.end_of_file-end.ensures.kind w.end_of_file-end.ensures.cause w.end_of_file-end.ensures.sound))
+          (subst IsUnfailed (sym w.in-Capture.is) tt) w.end_of_file-end.ensures.kind w.end_of_file-end.ensures.cause))
       | in_default w ↦
           let B : UnpackEnd → Type 0 = λ e. Q e c.replay.new.capture.source in
           subst A (sym (c.into_inner.ensures.source ∙ ap (λ t. t.source) w.traced-is))

@@ -5,7 +5,6 @@ use Rattle.gts_checkpoint.proofs.ascending.is_among.Goals as goal
 
 pub returns : goal.returns
 returns c =
-    let xs = c.args.numbers.now in
     c.is_ok.ensures.value
-    ∙ has_searched xs c.args.number c.binary_search.result
-    (searched xs c.args.number c.binary_search.result c.binary_search.ensures.position (λ i j l m. c.requires i j 0 l m))
+    ∙ has_searched c.args.numbers.now c.args.number c.binary_search.result
+    (searched c.args.numbers.now c.args.number c.binary_search.result c.binary_search.ensures.position (λ i j l m. c.requires i j 0 l m))

@@ -29,12 +29,11 @@ loop-low-preserved c =
     let bs = c.args.bulletins.now in
     let m = c.loop-low.low + (c.loop-low.high - c.loop-low.low) / 2 in
     let here = position-at bs m c.index-bulletins-middle.result (omega arith) in
-    let above = above-half (positions bs) c.args.position m c.requires (omega arith) in
     record {
       order = omega arith;
       within = omega arith;
       below = c.loop-low.invariant.below;
-      above = λ k t l. above k t (omega (arith, positions-length bs));
+      above = λ k t l. (above-half (positions bs) c.args.position m c.requires (omega arith)) k t (omega (arith, positions-length bs));
     }
 
 pub returns-clause-none : goal.returns-clause-none

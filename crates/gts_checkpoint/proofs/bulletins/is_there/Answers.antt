@@ -5,8 +5,6 @@ use Rattle.gts_checkpoint.proofs.bulletins.is_there.Goals as goal
 
 pub returns : goal.returns
 returns c =
-    let bs = c.args.bulletins.now in
-    let p = c.args.position in
     c.is_some.ensures
-    ∙ sym (has-found (positions bs) p c.place_of.result c.place_of.ensures.found c.place_of.ensures.none)
-    ∙ sym (there-has (map bulletin_of bs) p)
+    ∙ sym (has-found (positions c.args.bulletins.now) c.args.position c.place_of.result c.place_of.ensures.found c.place_of.ensures.none)
+    ∙ sym (there-has (map bulletin_of c.args.bulletins.now) c.args.position)

@@ -7,12 +7,11 @@ use Rattle.gts_checkpoint.proofs.decoding.decode.Goals as goal
 
 pub returns-in_default-found-clause-none : goal.returns-in_default-found-clause-none
 returns-in_default-found-clause-none c =
-    let d = c.args.directory.now in
     let bytes = c.args.bytes.now in
-    let low : d.limit < 256 ^ 4 = omega (arith, c.limit-limit.ensures.value, c.limit-limit.ensures.range.1) in
+    let low : c.args.directory.now.limit < 256 ^ 4 = omega (arith, c.limit-limit.ensures.value, c.limit-limit.ensures.range.1) in
     let F : List ℕ → Type 0 = λ l. FindsText l c.circuits.result (first_of c.in-Ok.found) in
     let finds = subst F (bytes_there c.new-checkpoint_bytes.result.bytes.now bytes c.new-checkpoint_bytes.ensures) (c.in-Ok.ensures.found tt) in
-    no_text written d bytes c.circuits.result c.in-Ok.found c.circuits.ensures.value low c.in_default-found.is finds
+    no_text written c.args.directory.now bytes c.circuits.result c.in-Ok.found c.circuits.ensures.value low c.in_default-found.is finds
 
 pub returns-then-at-bytes-clause-none : goal.returns-then-at-bytes-clause-none
 returns-then-at-bytes-clause-none c =
@@ -24,8 +23,7 @@ returns-then-at-bytes-clause-none c =
     let finds = subst F (bytes_there c.new-checkpoint_bytes.result.bytes.now bytes c.new-checkpoint_bytes.ensures) (c.in-Ok.ensures.found tt) in
     let stands = stands_there bytes c.circuits.result c.in-Ok.found n c.in-Some.at c.in-Some.is finds c.in-Ok.ensures.fits c.in-Ok.ensures.unowed in
     let P : Option (Need × ℕ) → Type 0 = λ o. IfSome o (λ f. f.1 ≡ 41 + length (checkpoint_text (need_of f.0))) in
-    let place = subst P c.in-Some.is c.in-Ok.ensures.place in
-    not_whole written d bytes (need_of n) c.in-Some.at low stands place c.if-at-bytes.true
+    not_whole written d bytes (need_of n) c.in-Some.at low stands (subst P c.in-Some.is c.in-Ok.ensures.place) c.if-at-bytes.true
 
 pub returns-in_default-gate_behind-clause-none : goal.returns-in_default-gate_behind-clause-none
 returns-in_default-gate_behind-clause-none c =
@@ -44,14 +42,13 @@ returns-in_default-gate_behind-clause-none c =
 
 pub returns-then-not-branch-clause-none : goal.returns-then-not-branch-clause-none
 returns-then-not-branch-clause-none c =
-    let d = c.args.directory.now in
     let bytes = c.args.bytes.now in
     let n : Need = c.in-Some.need in
-    let low : d.limit < 256 ^ 4 = omega (arith, c.limit-limit.ensures.value, c.limit-limit.ensures.range.1) in
+    let low : c.args.directory.now.limit < 256 ^ 4 = omega (arith, c.limit-limit.ensures.value, c.limit-limit.ensures.range.1) in
     let F : List ℕ → Type 0 = λ l. FindsText l c.circuits.result (first_of c.in-Ok.found) in
     let finds = subst F (bytes_there c.new-checkpoint_bytes.result.bytes.now bytes c.new-checkpoint_bytes.ensures) (c.in-Ok.ensures.found tt) in
     let stands = stands_there bytes c.circuits.result c.in-Ok.found n c.in-Some.at c.in-Some.is finds c.in-Ok.ensures.fits c.in-Ok.ensures.unowed in
-    no_history written d bytes (need_of n) low stands (sym c.in_ok-is_sound.ensures ∙ c.if-not-branch.true)
+    no_history written c.args.directory.now bytes (need_of n) low stands (sym c.in_ok-is_sound.ensures ∙ c.if-not-branch.true)
 
 pub returns-clause-found : goal.returns-clause-found
 returns-clause-found c =

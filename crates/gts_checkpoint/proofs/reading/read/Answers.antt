@@ -49,7 +49,7 @@ seal_at-requires-clause-there g c = λ observed.
     let stands = stands_there bytes c.circuits.result c.in_ok-need.field-0 n at c.in-Some.is (c.in_ok-need.ensures.found observed) c.in_ok-need.ensures.fits c.in_ok-need.ensures.unowed in
     let now : List Call = g.P.Station.calls c.need_at.new.station in
     let F : List Call → Type 0 = λ l. at - 41 ≤ length (bytes_from l c.args.file 41) in
-    subst F (sym (c.in_ok-need.ensures.told observed)) (size_there bytes n c.in_ok-need.field-0 at c.in-Some.is stands c.in_ok-need.ensures.place)
+    subst F (sym (c.in_ok-need.ensures.looks.told observed)) (size_there bytes n c.in_ok-need.field-0 at c.in-Some.is stands c.in_ok-need.ensures.place)
 
 pub returns-in_default-2-clause-fault : goal.returns-in_default-2-clause-fault
 returns-in_default-2-clause-fault g c = λ observed.
@@ -60,7 +60,7 @@ returns-in_default-2-clause-fault g c = λ observed.
     let bytes = bytes_from (g.P.Station.calls c.args.station.now) c.args.file 41 in
     let stands = stands_there bytes c.circuits.result c.in_ok-need.field-0 n at c.in-Some.is (c.in_ok-need.ensures.found observed) c.in_ok-need.ensures.fits c.in_ok-need.ensures.unowed in
     let compared = compares v d (g.P.Station.calls c.args.station.now) (g.P.Station.calls c.need_at.new.station) c.args.file n at c.in_ok-need.field-0 c.first_seal-before.result c.mark.result c.in_ok-seal.field-0 c.in-Some.is
-    c.in_ok-need.ensures.place (c.in_ok-need.ensures.told observed) c.first_seal-before.ensures.held c.mark.ensures (c.in_ok-seal.ensures.stands observed) in
+    c.in_ok-need.ensures.place (c.in_ok-need.ensures.looks.told observed) c.first_seal-before.ensures.held c.mark.ensures (c.in_ok-seal.ensures.stands observed) in
     (ap (λ (k : ℕ). Damaged k 41) c.number.ensures.value, no_seal v d bytes (need_of n) c.first_seal-before.result (at - 41) c.in_ok-seal.field-0 stands compared c.in_default-2.is)
 
 pub returns-clause-begins : goal.returns-clause-begins
@@ -86,8 +86,8 @@ returns-clause-found g c = λ observed.
     let bytes = bytes_from (g.P.Station.calls c.args.station.now) c.args.file 41 in
     let stands = stands_there bytes c.circuits.result c.in_ok-need.field-0 n at c.in-Some.is (c.in_ok-need.ensures.found observed) c.in_ok-need.ensures.fits c.in_ok-need.ensures.unowed in
     let compared = compares v d (g.P.Station.calls c.args.station.now) (g.P.Station.calls c.need_at.new.station) c.args.file n at c.in_ok-need.field-0 c.first_seal-before.result c.mark.result c.in_ok-seal.field-0 c.in-Some.is
-    c.in_ok-need.ensures.place (c.in_ok-need.ensures.told observed) c.first_seal-before.ensures.held c.mark.ensures (c.in_ok-seal.ensures.stands observed) in
+    c.in_ok-need.ensures.place (c.in_ok-need.ensures.looks.told observed) c.first_seal-before.ensures.held c.mark.ensures (c.in_ok-seal.ensures.stands observed) in
     let can : CanBegin v d (need_of n) c.in-Some-gate_behind.gate = returns-clause-begins g c in
     has_read v d bytes (need_of n) c.first_seal-before.result (at - 41) c.in-Some-gate_behind.gate c.in_ok-seal.field-0 c.in-Some-2.seal stands compared can c.in-Some-2.is
-    (last_is v (g.P.Station.calls c.args.station.now) (g.P.Station.calls c.need_at.new.station) c.args.file (at - 41) c.first_seal-before.result c.in_ok-seal.field-0 c.in-Some-2.seal c.in-Some-2.is (c.in_ok-need.ensures.told observed)
+    (last_is v (g.P.Station.calls c.args.station.now) (g.P.Station.calls c.need_at.new.station) c.args.file (at - 41) c.first_seal-before.result c.in_ok-seal.field-0 c.in-Some-2.seal c.in-Some-2.is (c.in_ok-need.ensures.looks.told observed)
     (c.in_ok-seal.ensures.found observed))

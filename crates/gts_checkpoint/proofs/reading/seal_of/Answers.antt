@@ -21,9 +21,9 @@ loop-done-preserved g c =
           let begins = same_place (λ l. BeginsWith l part) (g.P.Station.calls c.loop-done.station) calls c.args.file c.from.result done (inv.told observed) c.from.ensures (c.in_ok-fetch.ensures.whole observed (ap Ok c.if-not-branch.false)) in
           let S : List ℕ → Type 0 = λ l. Seals c.add.new.self c.args.version before l in
           subst S (piece_there calls c.args.file done part there begins ∙ ap (λ (k : ℕ). take (done + k) all) long) (c.add.ensures c.args.version before (take done all) (inv.seals observed));
-      told = λ observed. c.in_ok-fetch.ensures.told observed ∙ inv.told observed;
-      sound = c.in_ok-fetch.ensures.sound ∙ inv.sound;
-      say = c.fetch.ensures.say ∙ inv.say;
+      told = λ observed. c.in_ok-fetch.ensures.looks.told observed ∙ inv.told observed;
+      sound = c.in_ok-fetch.ensures.looks.sound ∙ inv.sound;
+      say = c.fetch.ensures.looks.say ∙ inv.say;
     }
 
 pub returns-then-not-branch-clause-some : goal.returns-then-not-branch-clause-some

@@ -8,9 +8,8 @@ use Rattle.gts_checkpoint.proofs.sound.are_circuits_sound.Goals as goal
 pub returns-then-not-branch : goal.returns-then-not-branch
 returns-then-not-branch c =
     let k = c.loop-c.c in
-    let q = c.index-circuits-c.result in
-    sym (circuits-fail c.args.directory.now c.args.need.now k q (omega arith) (omega arith)
-    (c.index-circuits-c.is ∙ ap (λ (qs : List values.CircuitNeed). get_or qs k q) c.as_slice-circuits.ensures)
+    sym (circuits-fail c.args.directory.now c.args.need.now k c.index-circuits-c.result (omega arith) (omega arith)
+    (c.index-circuits-c.is ∙ ap (λ (qs : List values.CircuitNeed). get_or qs k c.index-circuits-c.result) c.as_slice-circuits.ensures)
     (λ row at. sym (c.in_ok-is_circuit_sound.ensures row at) ∙ c.if-not-branch.true))
 
 pub loop-c-preserved : goal.loop-c-preserved
@@ -27,8 +26,7 @@ loop-c-preserved c =
 pub returns : goal.returns
 returns c =
     let d = c.args.directory.now in
-    let n = c.args.need.now in
-    sym (rows-all (λ row. is_circuit_sound (need_of n) row.0.kept row.1) d.circuits n.circuits
+    sym (rows-all (λ row. is_circuit_sound (need_of c.args.need.now) row.0.kept row.1) d.circuits c.args.need.now.circuits
     (λ k row q a b.
     let below = get-below d.circuits k row a in
     let there : slice_get c.as_slice-circuits.result.now k ≡ Some q = ap (λ (qs : List values.CircuitNeed). slice_get qs k) c.as_slice-circuits.ensures ∙ b in

@@ -9,11 +9,10 @@ returns c =
     let d = c.args.directory.now in
     let n = need_of c.args.need.now in
     let q = circuit_need_of c.args.c.now in
-    let k = c.args.circuit in
     let test = is_there (map bulletin_of c.as_slice.result.now) in
     let agrees : (p : ℕ) → test p ≡ is_there n.bulletins p = λ p.
     ap (λ (bs : List values.Bulletin). is_there (map bulletin_of bs) p) c.as_slice.ensures in
-    if-ok (λ (sound : Bool). sound ≡ has_positions test c.as_slice-2.result.now c.as_slice-3.result.now) (IsJudged d n k q)
+    if-ok (λ (sound : Bool). sound ≡ has_positions test c.as_slice-2.result.now c.as_slice-3.result.now) (IsJudged d n c.args.circuit q)
     c.has_positions.result
     (λ sound e row at.
     let here = c.circuit.ensures.row in

@@ -10,12 +10,11 @@ use Rattle.gts_checkpoint.proofs.writing.put_all.Goals as goal
 pub returns-in_err-put-clause-alone : goal.returns-in_err-put-clause-alone
 returns-in_err-put-clause-alone g c = λ observed.
     let file : ℕ = c.args.writer.now.file in
-    let a = g.P.Station.calls c.args.station.now in
     let b = g.P.Station.calls c.put_need.new.station in
     let d = g.P.Station.calls c.put.new.station in
     let S : ℕ → Type 0 = λ k. OnlyOn k b d in
     let taken : c.take_seal-seal.new.self.file ≡ file = ap (λ (p : writers.SealingWriter). p.file) c.take_seal-seal.ensures.place ∙ c.in_ok-put_need.ensures.put.file in
-    on_on file a b d (c.put_need.ensures.alone observed) (subst S taken (c.put.ensures.alone observed))
+    on_on file (g.P.Station.calls c.args.station.now) b d (c.put_need.ensures.alone observed) (subst S taken (c.put.ensures.alone observed))
 
 pub returns-in_err-put-2-clause-alone : goal.returns-in_err-put-2-clause-alone
 returns-in_err-put-2-clause-alone g c = λ observed.

@@ -3,4 +3,4 @@ use Rattle.gts_circuit_tests.proofs.serve.open_and_run.Given as goal
 
 -- the history begins with the engine that was opened
 abbrev pub ghosts-run : goal.ghosts-run
-ghosts-run g a = record { beginning = opened_as g.P.Station.calls g.P.Station.disk_faults g.P.Station.say_faults (goes_on a.connections) a.engine }
+ghosts-run g a = record { beginning = opened_as g.P.Station (goes_on a.connections) a.engine }

@@ -14,7 +14,7 @@ returns-in_err-make_room-clause-answered g c =
     let clears = c.make_room.ensures.settles in
     let event = Lost c.args.c c.args.field in
     let p = err_from_is_err_and c.from_residual.result c.from_residual.ensures.1 in
-    λ mode. rw (p.1, p.2) (answers_uncleared g.P.Station.observed g.P.Station.calls g.P.Station.disk_faults g.P.Station.say_faults mode event old mid c.make_room.result clears c.in_err-make_room.field-0.0 c.in_err-make_room.was c.requires.sound)
+    λ mode. rw (p.1, p.2) (answers_uncleared g.P.Station mode event old mid c.make_room.result clears c.in_err-make_room.field-0.0 c.in_err-make_room.was c.requires.sound)
 
 pub returns-clause-answered : goal.returns-clause-answered
 returns-clause-answered g c =
@@ -23,12 +23,12 @@ returns-clause-answered g c =
     let clears = c.make_room.ensures.settles in
     let event = Lost c.args.c c.args.field in
     let o = LineLost c.args.field in
-    let going = goes_cleared g.P.Station.observed g.P.Station.calls g.P.Station.disk_faults g.P.Station.say_faults old mid c.make_room.result clears c.in_ok-make_room.was c.requires.going in
-    let sound = may_sound g.P.Station.observed g.P.Station.calls g.P.Station.disk_faults g.P.Station.say_faults c.make_room.result old mid clears c.requires.sound in
-    let enters = enters_core g.P.Station.observed g.P.Station.calls event mid going sound (subst (λ (d : Directory). c.args.c < length d.circuits) (sym (may_directory g.P.Station.observed g.P.Station.calls g.P.Station.disk_faults g.P.Station.say_faults c.make_room.result old mid clears)) c.requires.circuit)
+    let going = goes_cleared g.P.Station old mid c.make_room.result clears c.in_ok-make_room.was c.requires.going in
+    let sound = may_sound g.P.Station c.make_room.result old mid clears c.requires.sound in
+    let enters = enters_core g.P.Station event mid going sound (subst (λ (d : Directory). c.args.c < length d.circuits) (sym (may_directory g.P.Station c.make_room.result old mid clears)) c.requires.circuit)
     mid.core o (λ s holds. refl) (lost_step mid.directory mid.core c.args.c c.args.field) mid.within in
     let text = receipt_text c.args.c o no_heading in
-    λ mode. answers_told g.P.Station.observed g.P.Station.calls g.P.Station.disk_faults g.P.Station.say_faults mode event old mid c.make_room.result clears c.in_ok-make_room.was c.requires.going mid o enters
+    λ mode. answers_told g.P.Station mode event old mid c.make_room.result clears c.in_ok-make_room.was c.requires.going mid o enters
     c.say_receipt.new.parts 0 text c.say_receipt.result c.say_receipt.ensures (λ s h. receipt_told mode text) c.in_ok-say_receipt.was
 
 pub returns-in_err-say_receipt-clause-answered : goal.returns-in_err-say_receipt-clause-answered
@@ -38,22 +38,22 @@ returns-in_err-say_receipt-clause-answered g c =
     let clears = c.make_room.ensures.settles in
     let event = Lost c.args.c c.args.field in
     let o = LineLost c.args.field in
-    let going = goes_cleared g.P.Station.observed g.P.Station.calls g.P.Station.disk_faults g.P.Station.say_faults old mid c.make_room.result clears c.in_ok-make_room.was c.requires.going in
-    let sound = may_sound g.P.Station.observed g.P.Station.calls g.P.Station.disk_faults g.P.Station.say_faults c.make_room.result old mid clears c.requires.sound in
-    let enters = enters_core g.P.Station.observed g.P.Station.calls event mid going sound (subst (λ (d : Directory). c.args.c < length d.circuits) (sym (may_directory g.P.Station.observed g.P.Station.calls g.P.Station.disk_faults g.P.Station.say_faults c.make_room.result old mid clears)) c.requires.circuit)
+    let going = goes_cleared g.P.Station old mid c.make_room.result clears c.in_ok-make_room.was c.requires.going in
+    let sound = may_sound g.P.Station c.make_room.result old mid clears c.requires.sound in
+    let enters = enters_core g.P.Station event mid going sound (subst (λ (d : Directory). c.args.c < length d.circuits) (sym (may_directory g.P.Station c.make_room.result old mid clears)) c.requires.circuit)
     mid.core o (λ s holds. refl) (lost_step mid.directory mid.core c.args.c c.args.field) mid.within in
     let text = receipt_text c.args.c o no_heading in
     let p = err_from_is_err_and c.from_residual-in_err-say_receipt.result c.from_residual-in_err-say_receipt.ensures.1 in
-    λ mode. rw (p.1, p.2) (answers_choked g.P.Station.observed g.P.Station.calls g.P.Station.disk_faults g.P.Station.say_faults mode event old mid c.make_room.result clears c.in_ok-make_room.was c.requires.going mid o enters
+    λ mode. rw (p.1, p.2) (answers_choked g.P.Station mode event old mid c.make_room.result clears c.in_ok-make_room.was c.requires.going mid o enters
     c.say_receipt.new.parts 0 text c.say_receipt.result c.say_receipt.ensures (λ s h. receipt_told mode text) c.in_err-say_receipt.field-0.0 c.in_err-say_receipt.was)
 
 pub returns-in_err-make_room-clause-active : goal.returns-in_err-make_room-clause-active
 returns-in_err-make_room-clause-active g c =
     let p = err_from_is_err_and c.from_residual.result c.from_residual.ensures.1 in
     rw (p.1, p.2) (failed_active c.make_room.result c.in_err-make_room.field-0.0 c.in_err-make_room.was
-    (may_kind g.P.Station.observed g.P.Station.calls g.P.Station.disk_faults g.P.Station.say_faults c.make_room.result c.args.parts.now c.make_room.new.parts c.make_room.ensures.settles))
+    (may_kind g.P.Station c.make_room.result c.args.parts.now c.make_room.new.parts c.make_room.ensures.settles))
 
 pub returns-in_err-say_receipt-clause-active : goal.returns-in_err-say_receipt-clause-active
 returns-in_err-say_receipt-clause-active g c =
     let p = err_from_is_err_and c.from_residual-in_err-say_receipt.result c.from_residual-in_err-say_receipt.ensures.1 in
-    rw (p.1, p.2) (unsaid_active _ c.say_receipt.result c.in_err-say_receipt.field-0.0 c.in_err-say_receipt.was c.say_receipt.ensures.fault)
+    rw (p.1, p.2) (unsaid_active c.say_receipt.result c.in_err-say_receipt.field-0.0 c.in_err-say_receipt.was c.say_receipt.ensures.fault)

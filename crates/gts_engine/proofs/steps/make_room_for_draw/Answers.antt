@@ -10,11 +10,11 @@ returns-then-parts-c-clause-settles g c = inr c.settle.ensures.settles
 
 pub returns-then-parts-c-clause-bytes : goal.returns-then-parts-c-clause-bytes
 returns-then-parts-c-clause-bytes g c =
-    whenever c.settle.result (room_settled g.P.Station.observed g.P.Station.calls g.P.Station.disk_faults g.P.Station.say_faults c.settle.result c.args.parts.now c.settle.new.parts c.settle.ensures.settles _ draw_gathers)
+    whenever c.settle.result (room_settled g.P.Station c.settle.result c.args.parts.now c.settle.new.parts c.settle.ensures.settles _ draw_gathers)
 
 pub returns-then-parts-c-clause-saying : goal.returns-then-parts-c-clause-saying
 returns-then-parts-c-clause-saying g c =
-    whenever c.settle.result (held_settled g.P.Station.observed g.P.Station.calls g.P.Station.disk_faults g.P.Station.say_faults c.settle.result c.args.parts.now c.settle.new.parts c.settle.ensures.settles _ (omega arith))
+    whenever c.settle.result (held_settled g.P.Station c.settle.result c.args.parts.now c.settle.new.parts c.settle.ensures.settles _ (omega arith))
 
 pub returns-then-parts-c-clause-draw : goal.returns-then-parts-c-clause-draw
 returns-then-parts-c-clause-draw g c =
@@ -23,7 +23,7 @@ returns-then-parts-c-clause-draw g c =
     let most = most_is old.directory c.args.c (circuit_of_row c.circuit.result.now) c.circuit.ensures.row in
     let D : Directory → Type 0 = λ d. slice_index_or new.drawn c.args.c 0 < most_drawn d c.args.c in
     whenever c.settle.result (subst D (sym (ap (λ (p : EngineParts g.row.P.Denot). p.directory) c.settle.ensures.settles.rest))
-    (omega (arith, drawn_settled g.P.Station.observed g.P.Station.calls g.P.Station.disk_faults g.P.Station.say_faults c.settle.result old new c.settle.ensures.settles c.args.c, most, c.circuit.ensures.repeat.0)))
+    (omega (arith, drawn_settled g.P.Station c.settle.result old new c.settle.ensures.settles c.args.c, most, c.circuit.ensures.repeat.0)))
 
 pub returns-then-parts-c-clause-few : goal.returns-then-parts-c-clause-few
 returns-then-parts-c-clause-few g c =
@@ -37,7 +37,7 @@ returns-clause-few g c =
     let old = c.args.parts.now in
     let most = most_is old.directory c.args.c (circuit_of_row c.circuit.result.now) c.circuit.ensures.row in
     let D : Directory → Type 0 = λ d. most_drawn d c.args.c ≤ MOST_REPEAT in
-    subst D (sym (may_directory g.P.Station.observed g.P.Station.calls g.P.Station.disk_faults g.P.Station.say_faults c.make_room.result old c.make_room.new.parts c.make_room.ensures.settles)) (omega (arith, most, c.circuit.ensures.repeat.1))
+    subst D (sym (may_directory g.P.Station c.make_room.result old c.make_room.new.parts c.make_room.ensures.settles)) (omega (arith, most, c.circuit.ensures.repeat.1))
 
 -- behind room that was made, as many draws are counted, or none
 pub returns-clause-draw : goal.returns-clause-draw
@@ -46,4 +46,4 @@ returns-clause-draw g c =
     let new = c.make_room.new.parts in
     let most = most_is old.directory c.args.c (circuit_of_row c.circuit.result.now) c.circuit.ensures.row in
     let few : slice_index_or old.drawn c.args.c 0 < most_drawn old.directory c.args.c = omega (arith, c.if-parts-c.false, most) in
-    whenever c.make_room.result (draws_still g.P.Station.observed g.P.Station.calls g.P.Station.disk_faults g.P.Station.say_faults c.make_room.result old new c.args.c c.make_room.ensures.settles few)
+    whenever c.make_room.result (draws_still g.P.Station c.make_room.result old new c.args.c c.make_room.ensures.settles few)

@@ -1,11 +1,11 @@
-use Rattle.std.proofs.Common.{◌≡◌, ◌+◌, ◌<◌, [], length, take, true, false, refl, sym, ap, subst, arith, IsOk}
-use Rattle.gts_engine.specs.Cited.{Sayings, held_pieces, sizes_of, slice_index_or}
+use Rattle.std.proofs.Common.{◌≡◌, ◌+◌, ◌<◌, ℕ, [], length, take, true, false, refl, sym, ap, subst, ◌∙◌, arith, IsOk}
+use Rattle.gts_engine.specs.Cited.{Rose, Sayings, held_pieces, sizes_of, slice_index_or}
 use Rattle.gts_engine.proofs.PieceLemmas.{each_empty}
 use Rattle.gts_engine.proofs.SayingLemmas.{sayings_in, none_so_far, one_further, said_all, holds_all, holds_failed, fails_there}
 use Rattle.gts_engine.proofs.steps.say_held.Goals as goal
 
 pub loop-i-init : goal.loop-i-init
-loop-i-init g c = record { at = refl; up = none_so_far g.P.Station.observed g.P.Station.calls g.P.Station.disk_faults g.P.Station.say_faults c.args.parts.now }
+loop-i-init g c = record { at = refl; up = none_so_far g.P.Station c.args.parts.now }
 
 pub say_one-requires-clause-there : goal.say_one-requires-clause-there
 say_one-requires-clause-there g c =
@@ -22,20 +22,20 @@ loop-i-preserved g c =
     let A : Sayings → Type 0 = λ h. c.in-Ok.next ≡ sizes_of (take (c.loop-i.i + 1) h.each) in
     record {
       at = subst A (ap sayings_in c.loop-i.invariant.up.rest) c.in-Ok.ensures.next;
-      up = one_further g.P.Station.observed g.P.Station.calls g.P.Station.disk_faults g.P.Station.say_faults c.args.parts.now c.loop-i.i c.loop-i.parts c.say_one.new.parts c.loop-i.invariant.up (omega (arith, c.loop-i-test.true, c.count-i-end.ensures)) c.say_one.result c.say_one.ensures.told c.say_one.ensures.rest c.say_one.ensures.later c.say_one.ensures.disk c.in-Ok.next c.in-Ok.is c.in-Ok.ensures.stops c.in-Ok.ensures.sound;
+      up = one_further g.P.Station c.args.parts.now c.loop-i.i c.loop-i.parts c.say_one.new.parts c.loop-i.invariant.up (omega (arith, c.loop-i-test.true, c.count-i-end.ensures)) c.say_one.result c.say_one.ensures.told c.say_one.ensures.rest c.say_one.ensures.cause c.in-Ok.next c.in-Ok.is c.in-Ok.ensures.stops;
     }
 
 pub returns-in-Err-clause-says : goal.returns-in-Err-clause-says
-returns-in-Err-clause-says g c = holds_failed g.P.Station.observed g.P.Station.calls g.P.Station.disk_faults g.P.Station.say_faults c.args.parts.now c.loop-i.i c.loop-i.parts c.say_one.new.parts c.loop-i.invariant.up (omega (arith, c.loop-i-test.true, c.count-i-end.ensures)) c.say_one.result c.say_one.ensures.told c.say_one.ensures.rest c.say_one.ensures.later c.say_one.ensures.disk
+returns-in-Err-clause-says g c = holds_failed g.P.Station c.args.parts.now c.loop-i.i c.loop-i.parts c.say_one.new.parts c.loop-i.invariant.up (omega (arith, c.loop-i-test.true, c.count-i-end.ensures)) c.say_one.result c.say_one.ensures.told c.say_one.ensures.rest c.say_one.ensures.cause
 
 pub returns-in-Err-clause-said : goal.returns-in-Err-clause-said
-returns-in-Err-clause-said g c = fails_there g.P.Station.observed g.P.Station.calls g.P.Station.disk_faults g.P.Station.say_faults c.args.parts.now c.loop-i.i c.loop-i.parts c.say_one.new.parts c.loop-i.invariant.up (omega (arith, c.loop-i-test.true, c.count-i-end.ensures)) c.say_one.result c.say_one.ensures.told c.say_one.ensures.rest c.say_one.ensures.later c.say_one.ensures.disk
+returns-in-Err-clause-said g c = fails_there g.P.Station c.args.parts.now c.loop-i.i c.loop-i.parts c.say_one.new.parts c.loop-i.invariant.up (omega (arith, c.loop-i-test.true, c.count-i-end.ensures)) c.say_one.result c.say_one.ensures.told c.say_one.ensures.rest c.say_one.ensures.cause
 
 pub returns-clause-says : goal.returns-clause-says
-returns-clause-says g c = holds_all g.P.Station.observed g.P.Station.calls g.P.Station.disk_faults g.P.Station.say_faults c.args.parts.now c.loop-i.i c.loop-i.parts c.loop-i.invariant.up
+returns-clause-says g c = holds_all g.P.Station c.args.parts.now c.loop-i.i c.loop-i.parts c.loop-i.invariant.up
 
 pub returns-clause-said : goal.returns-clause-said
-returns-clause-said g c = said_all g.P.Station.observed g.P.Station.calls g.P.Station.disk_faults g.P.Station.say_faults c.args.parts.now c.loop-i.i c.loop-i.parts (omega (arith, c.loop-i-test.false, c.loop-i.auto.i-end, c.count-i-end.ensures)) c.loop-i.invariant.up
+returns-clause-said g c = said_all g.P.Station c.args.parts.now c.loop-i.i c.loop-i.parts (omega (arith, c.loop-i-test.false, c.loop-i.auto.i-end, c.count-i-end.ensures)) c.loop-i.invariant.up
 
 pub returns-in-Err-clause-silent : goal.returns-in-Err-clause-silent
 returns-in-Err-clause-silent g c = λ empty.
@@ -43,3 +43,15 @@ returns-in-Err-clause-silent g c = λ empty.
     let none : E c.loop-i.parts.held = subst E (sym (ap sayings_in c.loop-i.invariant.up.rest)) (each_empty (held_pieces c.args.parts.now.held) c.loop-i.i empty) in
     let no : false ≡ true = subst IsOk c.in-Err.is (c.say_one.ensures.silent none) in
     absurd (cc no)
+
+pub returns-in-Err-clause-cause : goal.returns-in-Err-clause-cause
+returns-in-Err-clause-cause g c =
+    let up = c.loop-i.invariant.up in
+    let asks = c.in-Err.ensures.cause in
+    let R : ℕ → Type 0 = λ n. Rose n (g.P.Station.say_faults c.say_one.new.parts.station) in
+    record { later = omega (arith, up.still, asks.later); failed = λ e. subst R up.still (asks.failed refl); sound = tt; disk = asks.disk ∙ up.disk_stays }
+
+pub returns-clause-cause : goal.returns-clause-cause
+returns-clause-cause g c =
+    let up = c.loop-i.invariant.up in
+    record { later = omega (arith, up.still); failed = λ e. absurd (cc e); sound = up.still; disk = up.disk_stays }

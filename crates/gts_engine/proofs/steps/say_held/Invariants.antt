@@ -7,5 +7,5 @@ use Rattle.gts_engine.proofs.steps.say_held.Given as goal
 abbrev pub invariant-loop-i : goal.invariant-loop-i
 invariant-loop-i g l = record {
   at : l.at ≡ sizes_of (take l.i l.fn.parts.held.each);
-  up : SaysUpTo g.P.Station.observed g.P.Station.calls g.P.Station.disk_faults g.P.Station.say_faults l.fn.parts l.i l.parts;
+  up : SaysUpTo g.P.Station l.fn.parts l.i l.parts;
 }

@@ -23,3 +23,12 @@ pub returns-in-Err-clause-silent : goal.returns-in-Err-clause-silent
 returns-in-Err-clause-silent g c = λ empty.
     let none : c.saying-channel.result.1.now ≡ [] = on_none c.saying-channel.result.0 c.saying-channel.result.1.now (sym c.saying-channel.ensures.piece ∙ empty) in
     absurd (c.if-next-at.false (omega (arith, ap (λ (l : List ℕ). length l) none)))
+
+pub returns-then-next-at-clause-cause : goal.returns-then-next-at-clause-cause
+returns-then-next-at-clause-cause g c = record { later = omega arith; failed = λ e. absurd (cc e); sound = refl; disk = refl }
+
+pub returns-in-Ok-clause-cause : goal.returns-in-Ok-clause-cause
+returns-in-Ok-clause-cause g c = let a = c.in-Ok.ensures in record { later = a.cause.later; failed = λ e. absurd (cc e); sound = a.cause.sound; disk = a.disk }
+
+pub returns-in-Err-clause-cause : goal.returns-in-Err-clause-cause
+returns-in-Err-clause-cause g c = let a = c.in-Err.ensures in record { later = a.cause.later; failed = λ e. a.cause.failed refl; sound = tt; disk = a.disk }

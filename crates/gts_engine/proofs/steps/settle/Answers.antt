@@ -9,7 +9,7 @@ pub returns-then-is_empty-clause-settles : goal.returns-then-is_empty-clause-set
 returns-then-is_empty-clause-settles g c =
     let old = c.args.parts.now in
     let none : (engine_of old).gathered ≡ false = none_told _ c.is_empty.result c.is_empty.ensures.value c.if-is_empty.true in
-    nothing_settled g.P.Station.observed g.P.Station.calls g.P.Station.disk_faults g.P.Station.say_faults old c.requires.sound none (unfailed g.P.Station.observed g.P.Station.calls g.P.Station.disk_faults g.P.Station.say_faults (Ok tt) old old refl)
+    nothing_settled g.P.Station old c.requires.sound none (unfailed g.P.Station (Ok tt) old old refl)
 
 pub bring_and_say-result-requires-clause-some : goal.bring_and_say-result-requires-clause-some
 bring_and_say-result-requires-clause-some g c =
@@ -37,7 +37,7 @@ returns-clause-settles g c =
     let result = c.bring_and_say-result.result in
     let b = c.bring_and_say-result.ensures in
     let some : (engine_of old).gathered ≡ true = some_told _ c.is_empty.result c.is_empty.ensures.value c.is_empty.ensures.closed c.if-is_empty.false in
-    let H : EngineParts g.row.P.Denot → Type 0 = λ p. HasSettled g.P.Station.observed g.P.Station.calls g.P.Station.disk_faults g.P.Station.say_faults result old p in
+    let H : EngineParts g.row.P.Denot → Type 0 = λ p. HasSettled g.P.Station result old p in
     let D : List ℕ → EngineParts g.row.P.Denot = λ drawn. record mid { batch = no_records mid.journal; held = no_sayings; drawn = drawn } in
     let S : List ℕ → Type 0 = λ drawn. H (D drawn) in
-    subst H (sym c.clear.ensures.rest) (subst S (sym c.clear.ensures.drawn) (all_settled g.P.Station.observed g.P.Station.calls g.P.Station.disk_faults g.P.Station.say_faults old mid c.requires.going c.requires.sound some result b.brings b.said b.place b.rest b.stops b.kind b.cause (few_none old.directory)))
+    subst H (sym c.clear.ensures.rest) (subst S (sym c.clear.ensures.drawn) (all_settled g.P.Station old mid c.requires.going c.requires.sound some result b.brings b.said b.place b.rest b.stops b.kind b.cause (few_none old.directory)))

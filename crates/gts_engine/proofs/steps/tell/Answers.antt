@@ -20,12 +20,10 @@ returns-then-is_empty g c =
       told = λ same. c.say_on.ensures.told;
       rest = λ same. c.say_on.ensures.rest;
       held = λ some. absurd (cc (none, some));
-      few = few_held old.held _ _ c.requires.room (ap part_held c.say_on.ensures.rest);
+      few = few_held old.held _ _ c.requires (ap part_held c.say_on.ensures.rest);
       stops = c.say_on.ensures.stops;
       fault = c.say_on.ensures.fault;
-      later = c.say_on.ensures.later;
-      sound = c.say_on.ensures.sound;
-      disk_stays = c.say_on.ensures.disk;
+      cause = c.say_on.ensures.cause;
     }
 
 pub returns : goal.returns
@@ -36,10 +34,8 @@ returns g c =
       told = λ none. absurd (cc (none, some));
       rest = λ none. absurd (cc (none, some));
       held = λ same. (refl, held_alone c.args.parts.now c.hold.new.self _, c.hold.ensures);
-      few = few_more old.held _ _ _ c.requires.room c.hold.ensures;
+      few = few_more old.held _ _ _ c.requires c.hold.ensures;
       stops = refl;
       fault = tt;
-      later = omega arith;
-      sound = refl;
-      disk_stays = refl;
+      cause = record { later = omega arith; failed = λ e. absurd (cc e); sound = refl; disk = refl };
     }

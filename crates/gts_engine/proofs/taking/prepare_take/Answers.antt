@@ -14,7 +14,7 @@ returns-in-Resend-clause-ready g c =
     let old = c.args.parts.now in
     let m = c.make_room in
     let mid = m.new.parts in
-    let core = may_core g.P.Station.observed g.P.Station.calls g.P.Station.disk_faults g.P.Station.say_faults m.result old mid m.ensures.settles in
+    let core = may_core g.P.Station m.result old mid m.ensures.settles in
     takes_none mid c.args.c m.result m.ensures.saying
     (λ s holds. repeat_unrecorded mid.directory s c.args.c c.in-Resend.index
     (ap choice_told (sym c.in-Resend.is) ∙ c.requires.chosen mid.directory s (subst (λ (k : Core). Holds mid.directory k s) core holds)))
@@ -24,7 +24,7 @@ returns-in-Nothing-clause-ready g c =
     let old = c.args.parts.now in
     let m = c.make_room-in-Nothing in
     let mid = m.new.parts in
-    let core = may_core g.P.Station.observed g.P.Station.calls g.P.Station.disk_faults g.P.Station.say_faults m.result old mid m.ensures.settles in
+    let core = may_core g.P.Station m.result old mid m.ensures.settles in
     takes_none mid c.args.c m.result m.ensures.saying
     (λ s holds. nothing_unrecorded mid.directory s c.args.c
     (ap choice_told (sym c.in-Nothing.is) ∙ c.requires.chosen mid.directory s (subst (λ (k : Core). Holds mid.directory k s) core holds)))

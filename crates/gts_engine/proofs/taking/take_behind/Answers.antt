@@ -21,7 +21,7 @@ pub returns-clause-answered : goal.returns-clause-answered
 returns-clause-answered g c =
     let old = c.args.parts.now in
     let result : Result (Unit {0}) SwitchFault = Ok tt in
-    answers_untold g.P.Station.observed g.P.Station.calls g.P.Station.disk_faults g.P.Station.say_faults Caller (Taken c.args.c) old old result (inl (refl, refl)) refl c.requires.going
+    answers_untold g.P.Station Caller (Taken c.args.c) old old result (inl (refl, refl)) refl c.requires.going
     c.enter_take-outcome.new.parts c.enter_take-outcome.result c.enter_take-outcome.ensures.entered
     c.tell_nothing.new.parts c.tell_nothing.ensures.rest c.tell_nothing.ensures.same c.tell_nothing.ensures.held c.tell_nothing.ensures.few (λ s h. caller_silent old.directory s c.args.c)
 

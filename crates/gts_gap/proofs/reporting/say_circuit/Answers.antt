@@ -45,7 +45,7 @@ returns-clause-told g c = λ t ns stands.
     let all = asked_some d c.args.moment c.args.c w (gaps ns) some in
     let peer : peer_of d c.args.c ≡ c.circuit.result.now.peer = peer_is d.circuits c.args.c (circuit_of_row c.circuit.result.now) c.circuit.ensures.row in
     let text = c.bytes.ensures.text ∙ c.ask.ensures.text ns stands ∙ ap (λ (own : List ℕ). text_of own w (runs_given ns)) c.centre.ensures in
-    let F : List ℕ → List ℕ → Type 0 = λ p x. Tells c.say_request.result (on (c.args.c + 1) (ask_frame (ask_heading p c.args.moment.day c.args.moment.hour c.args.moment.minute) x)) b e in
-    let frame : F (peer_of d c.args.c) (text_of d.centre w (runs_given ns)) =
-    subst (λ (x : List ℕ). F (peer_of d c.args.c) x) text (subst (λ (p : List ℕ). F p c.bytes.result.now) (sym peer) (c.say_request.ensures.told t)) in
+    let F : ℕ → List ℕ → List ℕ → Type 0 = λ n p x. Tells c.say_request.result (on n (ask_frame (ask_heading p c.args.moment.day c.args.moment.hour c.args.moment.minute) x)) b e in
+    let frame : F (c.args.c + 1) (peer_of d c.args.c) (text_of d.centre w (runs_given ns)) =
+    rw (← c.of_circuit.ensures, peer, ← text) (c.say_request.ensures.told t) in
     tells_behind c.say_request.result a b e (on 0 (gap_lines c.args.c w (gaps ns))) (asked d c.args.moment c.args.c w (gaps ns)) said (subst (λ (o : Outside). Tells c.say_request.result o b e) (sym all) frame)

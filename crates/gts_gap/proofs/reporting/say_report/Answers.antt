@@ -36,8 +36,8 @@ loop-c-preserved g c =
           let says : SaysOnly b e here = subst (λ (r : Result (Unit {0}) Failed). Tells r here b e) c.in_ok-say_circuit.was (c.say_circuit.ensures.told t (numbers k) (stand k within)) in
           let both : SaysOnly a e (before ++ here) = tells_behind {T = Unit {0}} {E = Failed} (Ok tt) a b e before here (c.loop-c.invariant.said t numbers stand) says in
           subst (λ (o : Outside). SaysOnly a e o) (sym (said_more_of d c.args.moment numbers 0 k ∙ ap (λ (n : ℕ). before ++ said_of d c.args.moment n (numbers n)) (let z : 0 + k ≡ k = omega arith in z))) both;
-      sound = c.in_ok-say_circuit.ensures.sound ∙ c.loop-c.invariant.sound;
-      disk = c.say_circuit.ensures.disk ∙ c.loop-c.invariant.disk;
+      sound = c.in_ok-say_circuit.ensures.cause.sound ∙ c.loop-c.invariant.sound;
+      disk = c.say_circuit.ensures.cause.disk ∙ c.loop-c.invariant.disk;
     }
 
 pub returns-clause-told : goal.returns-clause-told

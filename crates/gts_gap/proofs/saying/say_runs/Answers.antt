@@ -41,6 +41,6 @@ loop-first-preserved g c =
             x.1 ∙ ap (λ (rs : List (ℕ × ℕ × ℕ)). x.0 ++ run_lines c.args.c rs) c.in-Some.ensures.steps ∙ sym (append_assoc x.0 line rest),
             tells_on {T = Unit {0}} {E = Failed} (Ok tt) a b d 0 x.0 line x.2 said,
           );
-      sound = c.in_ok-say.ensures.sound ∙ c.loop-first.invariant.sound;
-      disk = c.say.ensures.disk ∙ c.loop-first.invariant.disk;
+      sound = c.in_ok-say.ensures.cause.sound ∙ c.loop-first.invariant.sound;
+      disk = c.say.ensures.cause.disk ∙ c.loop-first.invariant.disk;
     }

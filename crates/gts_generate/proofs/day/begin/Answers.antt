@@ -15,13 +15,13 @@ pub returns : goal.returns
 returns c =
     let d = c.in_ok-directory.directory in
     let old = c.in_ok-station.station in
-    let opened = c.open.ensures in
     told_otherwise _ (λ engine. BeginsDay engine) c.open.result c.map_err.result c.map_err.ensures.cases (λ e is.
+    let opened = IfOk-at_ok _ is c.open.ensures.opened in
     begun-day d c.mark.result old e c.in_ok-directory.ensures c.mark.ensures
     c.in_ok-station.ensures.journal c.in_ok-station.ensures.selector c.in_ok-station.ensures.silent
-    (IfOk-at_ok _ is opened.directory) (IfOk-at_ok _ is (opened.reads tt)) (IfOk-at_ok _ is (opened.synced tt)) (IfOk-at_ok _ is opened.begins)
+    opened.directory (opened.reads tt) (opened.synced tt) opened.begins
     (λ n there. (
-      c.an_opened_engine_begins_with_what_the_files_open_to.ensures.sound d (seen (calls_on old)) e n (IfOk-at_ok _ is (opened.reads tt)) there,
-      c.an_opened_engine_begins_with_what_the_files_open_to.ensures.holds d (seen (calls_on old)) e n (IfOk-at_ok _ is (opened.reads tt)) there,
+      c.an_opened_engine_begins_with_what_the_files_open_to.ensures.sound d (seen (calls_on old)) e n (opened.reads tt) there,
+      c.an_opened_engine_begins_with_what_the_files_open_to.ensures.holds d (seen (calls_on old)) e n (opened.reads tt) there,
     ))
     c.states_are_ordered.ensures.start c.each_bulletin_is_routed_once.ensures.start c.no_circuit_is_owed_more_than_may_be.ensures.start)

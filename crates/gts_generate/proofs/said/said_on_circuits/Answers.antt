@@ -26,10 +26,10 @@ loop-k-preserved c =
     let past : List (ℕ × List ℕ) = sayings c.args.station.now.past in
     let k : ℕ = c.loop-k.k in
     let said : List ℕ = c.on_circuit-said.result.now in
-    let here : slice_get past k ≡ Some (c.in-Some.channel, c.in-Some.said.now) = c.in-Some.ensures.some in
-    let added : said ≡ on_circuit (c.in-Some.channel, c.in-Some.said.now) = c.on_circuit-said.ensures in
+    let here : slice_get past k ≡ Some (c.in-Some.found.0, c.in-Some.found.1.now) = c.in-Some.ensures.some in
+    let added : said ≡ on_circuit (c.in-Some.found.0, c.in-Some.found.1.now) = c.on_circuit-said.ensures in
     let more : on_circuits (take (k + 1) past) ≡ on_circuits (take k past) ++ said =
-    sayings-more past k c.in-Some.channel c.in-Some.said.now here ∙ ap (λ (l : List ℕ). on_circuits (take k past) ++ l) (sym added) in
+    sayings-more past k c.in-Some.found.0 c.in-Some.found.1.now here ∙ ap (λ (l : List ℕ). on_circuits (take k past) ++ l) (sym added) in
     let longer : length (on_circuits (take (k + 1) past)) ≡ length (on_circuits (take k past)) + length said =
     ap length more ∙ length-append (on_circuits (take k past)) said in
     let framed : frames_in (on_circuits (take (k + 1) past)) ≡ frames_in (on_circuits (take k past)) + frames_in said =

@@ -4,7 +4,7 @@ use Rattle.std.proofs.lemmas.List.{append-nil}
 use Rattle.gts_migrate.specs.Cited.{AnswersOpening, AnswersWaiting, Call, Did, DiskFault, Dropped, EachSince, Full, IsPreparedFaultOf, IsRoomAnswer, MigrateFault, Need, NoMemory, Open, OpenFault, OpensEither, OpensWith, Outside, Refused, SayFault, SaysFor, State, Syncs, Waiting, Waits, full_compacted, goes_on, need, need_of, on, opens_any, restarted, said_by, sayings, seen, waits_on_closed}
 use Rattle.gts_journal.proofs.LawLemmas.{syncs_silent}
 use Rattle.gts_migrate.proofs.DroppingLemmas.{sayings_again, nothing_refused, no_bytes}
-use Rattle.gts_migrate.proofs.MigratingLemmas.{few_due, fits_for, can_migrate, state_is, need_is, opens_so, at_rest, room_after, waiting_after, opening_after, told_after, disk_after, migrated_after, said_after, silent_by, counts_after}
+use Rattle.gts_migrate.proofs.MigratingLemmas.{few_due, fits_for, can_migrate, state_is, need_is, opens_so, at_rest, room_after, waiting_after, opening_after, told_after, migrated_after, said_after, silent_by, counts_after}
 use Rattle.gts_migrate.proofs.migrating.take_over.Goals as goal
 
 -- where it was prepared, nothing waits, or it is dropped
@@ -128,11 +128,6 @@ returns-clause-told g c = λ tell leaves.
     told_after g.P.Station.calls c.rewrite.result c.args.station.now c.open_core_any.new.station c.rewrite.new.station c.rewrite.ensures.kind c.rewrite.ensures.no_memory
     (c.in_ok-core.ensures.told tell) leaves
 
-pub returns-clause-disk : goal.returns-clause-disk
-returns-clause-disk g c = λ is.
-    disk_after c.rewrite.result (g.P.Station.disk_faults c.args.station.now) (g.P.Station.disk_faults c.open_core_any.new.station) (g.P.Station.disk_faults c.rewrite.new.station)
-    c.rewrite.ensures.kind c.rewrite.ensures.disk c.in_ok-core.ensures.later is
-
 pub returns-in_err-prepared-clause-moments : goal.returns-in_err-prepared-clause-moments
 returns-in_err-prepared-clause-moments g c = λ tell k was is.
     let old = c.args.old.now in
@@ -239,10 +234,9 @@ returns-clause-silent g c = λ tell why.
       | inr leaves ↦ syncs_silent before after (told leaves)
     ]
 
-pub returns-clause-say : goal.returns-clause-say
-returns-clause-say g c =
-    counts_after c.rewrite.result (g.P.Station.say_faults c.args.station.now) (g.P.Station.say_faults c.open_core_any.new.station) (g.P.Station.say_faults c.rewrite.new.station)
-    c.in_ok-core.ensures.say c.rewrite.ensures.say
+pub returns-clause-counts : goal.returns-clause-counts
+returns-clause-counts g c =
+    counts_after g.P.Station c.rewrite.result c.args.station.now c.open_core_any.new.station c.rewrite.new.station c.in_ok-core.ensures.cause.sound c.in_ok-core.ensures.cause.say c.rewrite.ensures.counts
 
 pub returns-clause-unsaid : goal.returns-clause-unsaid
 returns-clause-unsaid g c = λ refused is.

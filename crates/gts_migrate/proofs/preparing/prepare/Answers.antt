@@ -1,6 +1,6 @@
 use Rattle.std.proofs.Common.{◌≡◌, ℕ, ◌-◌, ◌^◌, true, length, min, ap, ◌∙◌, arith}
 use Rattle.std.proofs.lemmas.Result.{err_from_is_err_and}
-use Rattle.gts_migrate.specs.Cited.{Core, Directory as DirectoryOf, DiskFault, Full, HasFewDue, Holds, IsPreparedFaultOf, IsRoomAnswer, IsSaidFaultOf, MigrateFault, Need, Needs, NoMemory, Open, SayFault, State, Waits, checkpoint_text, goes_on, is_sound, left_behind, need, need_of}
+use Rattle.gts_migrate.specs.Cited.{Core, Directory as DirectoryOf, HasFewDue, Holds, IsPreparedFaultOf, IsRoomAnswer, IsSaidFaultOf, MigrateFault, Need, Needs, NoMemory, State, Waits, checkpoint_text, goes_on, is_sound, left_behind, need, need_of}
 use Rattle.gts_migrate.proofs.LettingGoLemmas.{due-on}
 use Rattle.gts_migrate.proofs.MigratingLemmas.{brought_from}
 use Rattle.gts_migrate.proofs.preparing.prepare.Goals as goal
@@ -46,18 +46,12 @@ returns-in_err-check_room-clause-room c = λ s holds.
 said_room : (fault : MigrateFault) (d : DirectoryOf) (t : State) → IsSaidFaultOf fault → IsRoomAnswer fault d t
 said_room (Waits circuit count) d t kind = tt
 said_room NoMemory d t kind = tt
-said_room (Open e) d t kind = absurd kind
-said_room (Full at wanted limit) d t kind = absurd kind
-said_room DiskFault d t kind = absurd kind
-said_room SayFault d t kind = absurd kind
+said_room _ d t kind = absurd kind
 
 said_kind : (fault : MigrateFault) → IsSaidFaultOf fault → IsPreparedFaultOf fault
 said_kind (Waits circuit count) kind = tt
 said_kind NoMemory kind = tt
-said_kind (Open e) kind = absurd kind
-said_kind (Full at wanted limit) kind = absurd kind
-said_kind DiskFault kind = absurd kind
-said_kind SayFault kind = absurd kind
+said_kind _ kind = absurd kind
 
 pub returns-in_err-receipts-clause-room : goal.returns-in_err-receipts-clause-room
 returns-in_err-receipts-clause-room c = λ s holds.

@@ -21,7 +21,7 @@ returns-clause-reading g c =
     let H : ℕ → Type 0 = λ f. HasRead c.version.result d (bytes_from old f 41) n (held c.version.result seal) in
     let K : Version → Type 0 = λ v. HasRead v d (bytes_from old c.args.journal.now.file 41) n (held v seal) in
     checkpoint_reading d old new c.in_ok-core.core c.args.journal.now c.pass.new.self n gate (held c.args.journal.now.version seal) c.requires packed
-    c.in_ok-need.ensures.told (λ tell. subst K c.version.ensures (subst H c.file.ensures.file (c.in_ok-need.ensures.found tell)))
+    c.in_ok-need.ensures.looks.told (λ tell. subst K c.version.ensures (subst H c.file.ensures.file (c.in_ok-need.ensures.found tell)))
     (subst (λ (v : Version). CanBegin v d n gate) c.version.ensures c.in_ok-need.ensures.begins) c.in_ok-core.ensures c.pass.ensures.place c.pass.ensures.stands
 
 pub returns-in_err-need-clause-fault : goal.returns-in_err-need-clause-fault

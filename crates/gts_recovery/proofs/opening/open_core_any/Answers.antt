@@ -24,7 +24,7 @@ returns-clause-opened g c =
     (omega (arith, c.bounds_hold.ensures.greatest))
     (λ tell. started v c.args.directory.now old new c.in_ok-journal.journal (c.in_ok-journal.ensures.synced tell) (c.in_ok-journal.ensures.stands tell)
     (subst (λ (mark : List ℕ). fault_sought true mark (seen old) ≡ None) c.mark.ensures (c.in_ok-journal.ensures.fault tell)) (c.in_ok-journal.ensures.version tell))
-    (λ tell. c.admit_all.ensures.told tell ∙ c.in_ok-core.ensures.told tell) (c.in_ok-admit_all.ensures.version ∙ c.in_ok-core.ensures.version)
+    (λ tell. c.admit_all.ensures.looks.told tell ∙ c.in_ok-core.ensures.looks.told tell) (c.in_ok-admit_all.ensures.version ∙ c.in_ok-core.ensures.version)
     (c.in_ok-admit_all.ensures.file ∙ c.in_ok-core.ensures.file) c.in_ok-admit_all.ensures.through
 
 pub returns-in_err-core-clause-fault : goal.returns-in_err-core-clause-fault
@@ -48,7 +48,7 @@ returns-in_err-admit_all-clause-fault g c = λ tell.
     (records_answer v c.args.directory.now old new c.in_ok-journal.journal c.in_err-admit_all.field-0.0
     (started v c.args.directory.now old new c.in_ok-journal.journal (c.in_ok-journal.ensures.synced tell) (c.in_ok-journal.ensures.stands tell)
     (subst (λ (mark : List ℕ). fault_sought true mark (seen old) ≡ None) c.mark.ensures (c.in_ok-journal.ensures.fault tell)) (c.in_ok-journal.ensures.version tell))
-    (same_opened c.args.directory.now new next c.in_ok-journal.journal c.begin.new.journal c.in_err-admit_all.field-0.0 (c.in_ok-core.ensures.told tell) c.in_ok-core.ensures.version
+    (same_opened c.args.directory.now new next c.in_ok-journal.journal c.begin.new.journal c.in_err-admit_all.field-0.0 (c.in_ok-core.ensures.looks.told tell) c.in_ok-core.ensures.version
     c.in_ok-core.ensures.file (c.in_err-admit_all.ensures.fault tell)))
 
 pub returns-in_err-journal-clause-fault : goal.returns-in_err-journal-clause-fault

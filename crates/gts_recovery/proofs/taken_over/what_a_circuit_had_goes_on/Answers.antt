@@ -8,10 +8,10 @@ pub returns-clause-draws : goal.returns-clause-draws
 returns-clause-draws c = draws-over
 
 pub returns-clause-same_digits : goal.returns-clause-same_digits
-returns-clause-same_digits c = drawn-same
+returns-clause-same_digits c = λ new old n k row next rows. drawn-same new old n k row next rows.before rows.after
 
 pub returns-clause-other_digits : goal.returns-clause-other_digits
-returns-clause-other_digits c = drawn-other
+returns-clause-other_digits c = λ new old n k row next rows. drawn-other new old n k row next rows.before rows.after
 
 pub returns-clause-unowed : goal.returns-clause-unowed
 returns-clause-unowed c = owed-over

@@ -6,12 +6,10 @@ use Rattle.gts_replay.proofs.CauseLemmas.{caused_settled}
 use Rattle.gts_replay.proofs.replaying.replay.Goals as goal
 
 pub returns-in_default-clause-ends : goal.returns-in_default-clause-ends
-returns-in_default-clause-ends g c = λ o h start.
-    ends_unmade g.W.Switch.meanings g.W.Switch.observed c.args.kind o h g.S.Source.observed c.args.switch.now (g.S.Source.left c.args.capture.now) (g.S.Source.left c.args.capture.now) start
+returns-in_default-clause-ends g c = λ o h start. ends_unmade _ _ _ _ _ _ _ _ _ start
 
 pub returns-in_default-new-clause-ends : goal.returns-in_default-new-clause-ends
-returns-in_default-new-clause-ends g c = λ o h start.
-    ends_unmade g.W.Switch.meanings g.W.Switch.observed c.args.kind o h g.S.Source.observed c.args.switch.now (g.S.Source.left c.args.capture.now) (g.S.Source.left c.args.capture.now) start
+returns-in_default-new-clause-ends g c = λ o h start. ends_unmade _ _ _ _ _ _ _ _ _ start
 
 pub returns-clause-ends : goal.returns-clause-ends
 returns-clause-ends g c = λ o h start.
@@ -21,9 +19,7 @@ returns-clause-ends g c = λ o h start.
 
 pub returns-clause-cause : goal.returns-clause-cause
 returns-clause-cause g c =
-    caused_settled c.run-end.result c.settle_behind.result (g.W.Switch.disk_faults c.args.switch.now) (g.W.Switch.disk_faults c.run-end.new.switch) (g.W.Switch.disk_faults c.settle_behind.new.switch)
-    (g.W.Switch.say_faults c.args.switch.now) (g.W.Switch.say_faults c.run-end.new.switch) (g.W.Switch.say_faults c.settle_behind.new.switch) (g.S.Source.faults c.args.capture.now) (g.S.Source.faults c.run-end.new.capture)
-    c.run-end.ensures.cause c.settle_behind.ensures.cause
+    caused_settled c.run-end.result c.settle_behind.result _ _ _ _ _ _ _ _ c.run-end.ensures.cause c.settle_behind.ensures.cause
 
 pub run-end-requires-clause-decode : goal.run-end-requires-clause-decode
 run-end-requires-clause-decode g c =

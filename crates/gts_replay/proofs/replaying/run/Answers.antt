@@ -1,5 +1,5 @@
-use Rattle.std.proofs.Common.{◌≡◌, ◌+◌, ◌≤◌, ℕ, List, [], ◌∷◌, ◌++◌, length, Result, Err, OnOk, refl, sym, ap, subst, ◌∙◌, arith, length-append}
-use Rattle.gts_replay.specs.Cited.{AreStill, Bad, CaptureFault, DoesStep, End, Ends, HasReplayCause, ReplayEnd, SettlesBehind, SourceFault, StepFault, end_of, line_of}
+use Rattle.std.proofs.Common.{◌≡◌, ◌+◌, ◌≤◌, ℕ, List, [], ◌∷◌, ◌++◌, length, Result, Err, OnOk, refl, ap, subst, ◌∙◌, arith, length-append}
+use Rattle.gts_replay.specs.Cited.{AreStill, Bad, CaptureFault, DoesStep, End, Ends, ReplayEnd, SettlesBehind, SourceFault, StepFault, end_of, line_of}
 use Rattle.gts_replay.specs.Heads.{head_of}
 use Rattle.gts_replay.specs.declared.head.Head.{Head}
 use Rattle.gts_replay.specs.declared.fault.StepFault.TheVariants as step
@@ -57,8 +57,6 @@ returns-in-Err-do_step g c =
     record { told = c.in-Ok.ensures.told; valid = c.in-Ok.ensures.valid; feed = c.in-Ok.ensures.feed; at = c.in-Ok.ensures.at; within = c.in-Ok.ensures.within; same = c.next.ensures.same } in
     let does = subst (λ (r : Result (Unit {0}) StepFault). DoesStep g.W.Switch.meanings g.W.Switch.observed g.S.Source.observed head r c.next.new.self c.do_step.new.steps (g.S.Source.left c.next.new.source)
     (g.S.Source.left c.do_step.new.capture) c.loop.decoders c.do_step.new.decoders c.loop.switch c.do_step.new.switch) c.in-Err-do_step.is c.do_step.ensures.does in
-    let C : ReplayEnd → Type 0 = λ end. HasReplayCause end (g.W.Switch.disk_faults c.args.switch.now) (g.W.Switch.disk_faults c.do_step.new.switch) (g.W.Switch.say_faults c.args.switch.now)
-    (g.W.Switch.say_faults c.do_step.new.switch) (g.S.Source.faults c.args.capture.now) (g.S.Source.faults c.do_step.new.capture) in
     record {
       ends = λ o h start result now settles.
           ends_step g.W.Switch.meanings c.args.steps.now.kind g.W.Switch.observed g.S.Source.observed (g.S.Source.left c.args.capture.now) c.args.switch.now done.0 c.loop.steps c.next.new.self c.do_step.new.steps
@@ -66,10 +64,7 @@ returns-in-Err-do_step g c =
           c.requires.few done.2 c.loop.invariant.directory reads does result now
           (subst (λ (e : ReplayEnd). SettlesBehind g.W.Switch.meanings e result c.do_step.new.switch now) c.end_after-in-Err-do_step.ensures settles) o h start;
       directory = c.do_step.ensures.directory ∙ c.loop.invariant.directory;
-      cause = subst C (sym c.end_after-in-Err-do_step.ensures)
-          (caused_step c.do_step.result fault (g.W.Switch.disk_faults c.args.switch.now) (g.W.Switch.disk_faults c.loop.switch) (g.W.Switch.disk_faults c.do_step.new.switch)
-          (g.W.Switch.say_faults c.args.switch.now) (g.W.Switch.say_faults c.loop.switch) (g.W.Switch.say_faults c.do_step.new.switch)
-          (g.S.Source.faults c.args.capture.now) (g.S.Source.faults c.next.new.source) (g.S.Source.faults c.do_step.new.capture) c.loop.invariant.disk c.loop.invariant.say
+      cause = rw (c.end_after-in-Err-do_step.ensures) (caused_step c.do_step.result fault _ _ _ _ _ _ _ _ _ c.loop.invariant.disk c.loop.invariant.say
           (c.in-Ok.ensures.cause.sound ∙ c.loop.invariant.source) c.in-Err-do_step.is c.do_step.ensures.cause);
     }
 

@@ -47,7 +47,7 @@ returns c =
     ∙ ap circuit_need_of (sym (c.index-circuits-c.is ∙ ap (λ (xs : List values.CircuitNeed). get_or xs k q) c.as_slice-circuits.ensures)) in
     let was_row : row_of old k ≡ was = get_or_from_slice_get old.circuits k was (circuit_of [] []) c.circuit.ensures.row in
     let is_row : row_of new k ≡ is = get_or_from_slice_get new.circuits k is (circuit_of [] []) c.circuit-row.ensures.row in
-    let goes = c.a_circuit_goes_on.ensures new old n k was is c.requires.sound c.circuit.ensures.row c.circuit-row.ensures.row in
+    let goes = c.a_circuit_goes_on.ensures new old n c.requires.sound k was is c.circuit.ensures.row c.circuit-row.ensures.row in
     let kept : (need_of_circuit m k).kept ≡ last_of is.kept (cond (is.digits == was.digits) q.kept []) =
     ap (λ (x : CircuitNeed). x.kept) goes ∙ ap (λ (x : CircuitNeed). last_of is.kept (cond (is.digits == was.digits) x.kept [])) here in
     let near : nat_lt k (length old.circuits) ≡ true = lt-ltb k (length old.circuits) (omega (arith, c.circuits.ensures.value, c.if-c-circuits.false)) in

@@ -24,7 +24,7 @@ loop-preserved-in-Ok-true g c =
         subst P c.in-Ok-true.field-0-test (t.1 (g.D.Desk.seen c.args.desk.now) i.sent.0 i.sent.1),
         λ observed. t.2 observed ∙ ap (λ (l : List ℕ). l ++ t.0) (i.sent.2 observed) ∙ append_assoc (g.K.Sink.written c.args.sink.now) i.sent.0 t.0,
       );
-      sound = c.in-Ok-true.ensures.sound ∙ i.sound;
+      sound = c.in-Ok-true.ensures.cause.sound ∙ i.sound;
       can = search rules;
     }
 
@@ -50,7 +50,7 @@ loop-preserved g c =
         (subst P c.in-Ok-false.field-0-test (t.1 (g.D.Desk.seen c.args.desk.now) i.sent.0 i.sent.1)).0,
         λ observed. c.rest.ensures.unwritten observed ∙ t.2 observed ∙ ap (λ (l : List ℕ). l ++ t.0) (i.sent.2 observed) ∙ append_assoc (g.K.Sink.written c.args.sink.now) i.sent.0 t.0,
       );
-      sound = c.rest.ensures.sound ∙ c.in-Ok-false.ensures.sound ∙ i.sound;
+      sound = c.rest.ensures.sound ∙ c.in-Ok-false.ensures.cause.sound ∙ i.sound;
       can = search rules;
     }
 

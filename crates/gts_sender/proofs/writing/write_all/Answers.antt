@@ -15,5 +15,5 @@ loop-rest-preserved g c =
         i.written.1 ∙ ap (λ (l : List ℕ). i.written.0 ++ l) (cut n c.loop-rest.rest.now) ∙ sym (append_assoc i.written.0 (take n c.loop-rest.rest.now) _),
         λ observed. c.in_ok-count.ensures.bytes observed ∙ ap (λ (l : List ℕ). l ++ take n c.loop-rest.rest.now) (i.written.2 observed) ∙ append_assoc (g.K.Sink.written c.args.sink.now) i.written.0 (take n c.loop-rest.rest.now),
       );
-      sound = c.in_ok-count.ensures.sound ∙ i.sound;
+      sound = c.in_ok-count.ensures.cause.sound ∙ i.sound;
     }

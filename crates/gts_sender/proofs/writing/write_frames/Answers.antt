@@ -1,4 +1,4 @@
-use Rattle.std.proofs.Common.{◌≡◌, ℕ, ◌+◌, ◌<◌, ◌++◌, [], List, length, take, refl, sym, ap, ◌∙◌, arith, append_assoc}
+use Rattle.std.proofs.Common.{ℕ, ◌+◌, ◌<◌, ◌++◌, [], List, length, take, refl, sym, ap, ◌∙◌, arith, append_assoc}
 use Rattle.std.proofs.lemmas.List.{append-nil}
 use Rattle.gts_sender.specs.Cited.{Frame, frames_of, texts}
 use Rattle.gts_sender.proofs.WritingLemmas.{there, one_more, all_of, up_to, front_of}
@@ -24,7 +24,7 @@ loop-i-preserved g c =
             ∙ ap (λ (l : List ℕ). g.K.Sink.written c.args.sink.now ++ l)
             (ap (λ (l : List ℕ). l ++ w.0) i.written.1 ∙ ap (λ (l : List ℕ). texts (take c.loop-i.i given) ++ l) w.1 ∙ sym (one_more given c.loop-i.i frame within c.frame-index.ensures.frame)),
       );
-      sound = c.in-Ok.ensures.sound ∙ i.sound;
+      sound = c.in-Ok.ensures.cause.sound ∙ i.sound;
     }
 
 pub returns-in_default-clause-wrote : goal.returns-in_default-clause-wrote

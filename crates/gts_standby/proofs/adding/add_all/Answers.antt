@@ -88,9 +88,9 @@ loop-end-preserved g c =
           one_more T S observed told d s _ _ _ _ _ _ _ _ _ _ made c.in-Ok-gather.size c.gather.new.core c.gather.new.self _ _ one;
       whole = λ told w. c.in-Ok-gather.ensures.whole told (inv.whole told w);
       silent = λ observed. c.make_room.ensures.silent observed ∙ inv.silent observed;
-      sound = c.in_default.ensures.counts.sound refl ∙ inv.sound;
-      source_sound = c.in-Ok-gather.ensures.sound tt ∙ inv.source_sound;
-      say = c.make_room.ensures.counts.say ∙ inv.say;
+      sound = c.in_default.ensures.cause.sound ∙ inv.sound;
+      source_sound = c.in-Ok-gather.ensures.cause.sound tt ∙ inv.source_sound;
+      say = c.make_room.ensures.cause.say ∙ inv.say;
     }
 
 pub finish-requires-clause-gathered : goal.finish-requires-clause-gathered
@@ -120,14 +120,14 @@ returns-in-Err-gather-clause-counts g c =
     let inv = c.loop-end.invariant in
     let finished = c.finish.ensures.finished in
     let end = c.in-Err-gather.end in
-    let disk : g.P.Station.disk_faults c.make_room.new.station ≡ g.P.Station.disk_faults c.args.station.now = c.in_default.ensures.counts.sound refl ∙ inv.sound in
+    let disk : g.P.Station.disk_faults c.make_room.new.station ≡ g.P.Station.disk_faults c.args.station.now = c.in_default.ensures.cause.sound ∙ inv.sound in
     record {
-      disk_fault = λ is. subst (λ (k : ℕ). Rose k (g.P.Station.disk_faults c.finish.new.station)) disk (c.finish.ensures.disk_fault is);
+      disk_fault = λ is. subst (λ (k : ℕ). Rose k (g.P.Station.disk_faults c.finish.new.station)) disk (c.finish.ensures.counts.disk_fault is);
       source_fault = λ is.
           subst (λ (k : ℕ). Rose k (g.S.Source.faults c.gather.new.source)) inv.source_sound
-          (c.in-Err-gather.ensures.source_fault (ap (λ (e : FollowEnd). Err e) (finished_source _ c.finish.result end finished is)));
+          (c.in-Err-gather.ensures.cause.failed (ap (λ (e : FollowEnd). Err e) (finished_source _ c.finish.result end finished is)));
       later = omega (arith, disk, c.finish.ensures.counts.later);
-      sound = λ is. (c.finish.ensures.counts.sound is ∙ disk, c.in-Err-gather.ensures.sound (finished_end _ c.finish.result end finished is) ∙ inv.source_sound);
-      say = c.finish.ensures.counts.say ∙ c.make_room.ensures.counts.say ∙ inv.say;
-      source_later = omega (arith, inv.source_sound, c.gather.ensures.later);
+      sound = λ is. (c.finish.ensures.counts.sound is ∙ disk, c.in-Err-gather.ensures.cause.sound (finished_end _ c.finish.result end finished is) ∙ inv.source_sound);
+      say = c.finish.ensures.counts.say ∙ c.make_room.ensures.cause.say ∙ inv.say;
+      source_later = omega (arith, inv.source_sound, c.gather.ensures.cause.later);
     }

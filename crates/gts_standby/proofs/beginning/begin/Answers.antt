@@ -60,8 +60,19 @@ returns-in_err-put-clause-begun g c = λ tell told s fed holds read.
 pub returns-in_err-put-clause-kind : goal.returns-in_err-put-clause-kind
 returns-in_err-put-clause-kind g c = rw (returned c.from_residual-in_err-put.result c.in_err-put.field-0.0 c.from_residual-in_err-put.ensures.1) (put_adds c.in_err-put.field-0.0 c.in_err-put.ensures.kind)
 
-pub returns-in_err-put-clause-source_fault : goal.returns-in_err-put-clause-source_fault
-returns-in_err-put-clause-source_fault g c = rw (returned c.from_residual-in_err-put.result c.in_err-put.field-0.0 c.from_residual-in_err-put.ensures.1) (λ e. put_no_source c.in_err-put.field-0.0 c.in_err-put.ensures.kind _ e)
+pub returns-in_err-put-clause-cause : goal.returns-in_err-put-clause-cause
+returns-in_err-put-clause-cause g c =
+    let put = c.put.ensures.cause in
+    let fed = c.in_ok-behind.ensures.cause in
+    rw (returned c.from_residual-in_err-put.result c.in_err-put.field-0.0 c.from_residual-in_err-put.ensures.1)
+    (record {
+      disk_fault = λ is. c.in_err-put.ensures.cause.failed (cc is);
+      source_fault = λ is. put_no_source c.in_err-put.field-0.0 c.in_err-put.ensures.kind _ is;
+      later = put.later;
+      sound = λ still. absurd (put_ends c.in_err-put.field-0.0 c.in_err-put.ensures.kind still);
+      say = put.say;
+      source_later = fed.later;
+    })
 
 pub returns-clause-begun : goal.returns-clause-begun
 returns-clause-begun g c = λ tell told s fed holds read.

@@ -28,7 +28,7 @@ returns-then-not-is_same-clause-compared g c = λ observed told d end left fed o
     let v = c.version-version.result in
     let array = c.in_ok-size.fed in
     let record_passed = c.in_ok-pass_next.ensures.passed observed in
-    let one = behind_one d (g.P.Station.calls c.args.station.now) _ j next record_passed.0 end left on record_passed.1 record_passed.2 (c.in_ok-pass_next.ensures.told observed) in
+    let one = behind_one d (g.P.Station.calls c.args.station.now) _ j next record_passed.0 end left on record_passed.1 record_passed.2 (c.in_ok-pass_next.ensures.looks.told observed) in
     let found = c.in_ok-size.ensures.piece told fed read in
     let other : false ≡ pointwise nat_eq (held v c.seal-seal.result) (held v array) = search rules in
     diverged _ v c.args.index c.seal-seal.result array next.seal (held j.version array) _
@@ -45,7 +45,7 @@ returns-clause-compared g c = λ observed told d end left fed on low read.
     let v = c.version-version.result in
     let array = c.in_ok-size.fed in
     let record_passed = c.in_ok-pass_next.ensures.passed observed in
-    let one = behind_one d (g.P.Station.calls c.args.station.now) _ j next record_passed.0 end left on record_passed.1 record_passed.2 (c.in_ok-pass_next.ensures.told observed) in
+    let one = behind_one d (g.P.Station.calls c.args.station.now) _ j next record_passed.0 end left on record_passed.1 record_passed.2 (c.in_ok-pass_next.ensures.looks.told observed) in
     let found = c.in_ok-size.ensures.piece told fed read in
     let same : true ≡ pointwise nat_eq (held v c.seal-seal.result) (held v array) = search rules in
     let left_now = g.S.Source.left c.fed_record.new.source in

@@ -22,9 +22,9 @@ loop-alloc-preserved g c =
           (c.in_ok-size.ensures.compared observed told d c.args.end so.rest so.fed so.on (omega (arith, at_gate, c.loop-alloc-test.true)) so.read);
       whole = λ told w. c.in_ok-size.ensures.whole told (inv.whole told w);
       told = λ observed. c.compare_next.ensures.told observed ∙ inv.told observed;
-      sound = (c.in_ok-size.ensures.counts.sound tt).0 ∙ inv.sound;
-      say = c.compare_next.ensures.counts.say ∙ inv.say;
-      source_sound = (c.in_ok-size.ensures.counts.sound tt).1 ∙ inv.source_sound;
+      sound = (c.in_ok-size.ensures.cause.sound tt).0 ∙ inv.sound;
+      say = c.compare_next.ensures.cause.say ∙ inv.say;
+      source_sound = (c.in_ok-size.ensures.cause.sound tt).1 ∙ inv.source_sound;
     }
 
 pub returns-in_err-size-clause-compared : goal.returns-in_err-size-clause-compared

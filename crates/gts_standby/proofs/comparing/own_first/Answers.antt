@@ -14,7 +14,7 @@ returns-then-not-at_checkpoint-clause-on g c = λ observed end first low.
     let j = c.args.own.now in
     let plain : is_at_checkpoint j ≡ false = search rules in
     let passed = c.in_ok-pass_next.ensures.passed observed in
-    behind_one d old _ j c.pass_next.new.journal passed.0 end _ (first_leads d old j end first plain) passed.1 passed.2 (c.in_ok-pass_next.ensures.told observed)
+    behind_one d old _ j c.pass_next.new.journal passed.0 end _ (first_leads d old j end first plain) passed.1 passed.2 (c.in_ok-pass_next.ensures.looks.told observed)
 
 pub returns-in_err-pass_next-clause-on : goal.returns-in_err-pass_next-clause-on
 returns-in_err-pass_next-clause-on g c = λ observed end first low.
@@ -44,7 +44,7 @@ returns-clause-on g c = λ observed end first low.
     let K : Version → Type 0 = λ v. HasRead v d (bytes_from old j.file 41) n (held v c.in_ok-found.found.2) in
     let read = subst K c.version.ensures (subst H c.file-file.ensures.file (c.in_ok-found.ensures.found observed)) in
     let place : gate + 1 ≡ compacted_bytes j.version n = c.in_ok-found.ensures.begins.place ∙ ap (λ (v : Version). compacted_bytes v n) c.version.ensures in
-    behind_first d old _ j c.pass.new.self end n (held j.version c.in_ok-found.found.2) gate first packed read place (c.in_ok-found.ensures.told observed) c.pass.ensures.place
+    behind_first d old _ j c.pass.new.self end n (held j.version c.in_ok-found.found.2) gate first packed read place (c.in_ok-found.ensures.looks.told observed) c.pass.ensures.place
 
 pub returns-in_err-found-clause-on : goal.returns-in_err-found-clause-on
 returns-in_err-found-clause-on g c = λ observed end first low.

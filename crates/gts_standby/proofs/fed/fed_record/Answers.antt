@@ -26,5 +26,9 @@ returns-in-None-clause-piece g c = λ observed fed read next.
     let none : sealed_at v before c.fill.new.self.bytes ≡ None = ap (sealed_at v before) (sym c.bytes.ensures) ∙ sym c.in-None.ensures.found in
     no_piece c.end_at.result v before fed (g.S.Source.left c.fill.new.source) c.fill.new.self c.args.at now c.in_ok-fill.ensures.enough none c.end_at.ensures.end (at_end c.end_at.result c.end_at.ensures.kind) next
 
-pub returns-in-None-clause-source_fault : goal.returns-in-None-clause-source_fault
-returns-in-None-clause-source_fault g c = λ e. looked_no_fault c.end_at.result c.end_at.ensures.kind _ e
+pub returns-in-None-clause-cause : goal.returns-in-None-clause-cause
+returns-in-None-clause-cause g c = record {
+  later = c.fill.ensures.cause.later;
+  failed = λ e. looked_no_fault c.end_at.result c.end_at.ensures.kind _ e;
+  sound = λ _. c.in_ok-fill.ensures.cause.sound tt;
+}

@@ -83,7 +83,7 @@ returns-in-Ok-clause-named g c = named_added c.add_all.result c.add_all.ensures.
 pub returns-else-not-is_other-clause-counts : goal.returns-else-not-is_other-clause-counts
 returns-else-not-is_other-clause-counts g c =
     let other : is_other c.in-Err.end ≡ true = search rules in
-    let before = c.in-Err.ensures.counts in
+    let before = c.in-Err.ensures.cause in
     let same = before.sound (other_end c.in-Err.end other) in
     let took = c.take_other.ensures.counts in
     record {

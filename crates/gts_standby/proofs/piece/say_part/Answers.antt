@@ -57,6 +57,6 @@ loop-at-preserved g c =
           subst (λ (l : List ℕ). SaysHere old (g.P.Station.calls c.say_piece.new.station) l) (piece_more bytes part c.args.from c.loop-at.at count inv.begun long is)
           (says_more old (g.P.Station.calls c.read.new.self) (g.P.Station.calls c.say_piece.new.station) (take (c.loop-at.at - c.args.from) (drop c.args.from bytes)) part
           (subst S (sym (c.in_ok-found.ensures.told observed)) now) (c.in_ok-say_piece.ensures.told observed));
-      sound = c.say_piece.ensures.disk ∙ c.in_ok-found.ensures.sound ∙ inv.sound;
-      say = c.in_ok-say_piece.ensures.sound ∙ c.read.ensures.say ∙ inv.say;
+      sound = c.say_piece.ensures.cause.disk ∙ c.in_ok-found.ensures.cause.sound ∙ inv.sound;
+      say = c.in_ok-say_piece.ensures.cause.sound ∙ c.read.ensures.say ∙ inv.say;
     }

@@ -15,8 +15,8 @@ loop-station-preserved g c =
           let first = inv.said observed d left at in
           one_more d (g.P.Station.calls c.args.station.now) (g.P.Station.calls c.loop-station.station) (g.P.Station.calls c.say_next.new.station) j c.say_next.new.journal c.args.end left first
           (c.in_ok-say_next.ensures.said observed d c.args.end first.rest first.at (omega (arith, at_gate, c.loop-station-test.true)));
-      sound = c.in_ok-say_next.ensures.sound.0 ∙ inv.sound;
-      say = c.in_ok-say_next.ensures.sound.1 ∙ inv.say;
+      sound = c.in_ok-say_next.ensures.cause.sound.0 ∙ inv.sound;
+      say = c.in_ok-say_next.ensures.cause.sound.1 ∙ inv.say;
     }
 
 pub returns-in_err-say_next-clause-said : goal.returns-in_err-say_next-clause-said

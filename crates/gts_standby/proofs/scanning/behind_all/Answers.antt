@@ -15,7 +15,7 @@ loop-left-preserved g c =
           (c.in_ok-at.ensures.reached observed fed (inv.gone observed fed read)).0;
       place = c.in_ok-at.ensures.there.1;
       there = c.in_ok-at.ensures.there.0;
-      sound = c.in_ok-at.ensures.sound tt ∙ inv.sound;
+      sound = c.in_ok-at.ensures.cause.sound tt ∙ inv.sound;
     }
 
 pub returns-in_err-at-clause-reached : goal.returns-in_err-at-clause-reached

@@ -27,7 +27,7 @@ say_part-requires-clause-there g c = λ observed.
     let place : c.in_ok-found.found.1 + 1 ≡ compacted_bytes j.version n = c.in_ok-found.ensures.begins.place ∙ ap (λ (v : Version). compacted_bytes v n) c.version.ensures in
     let stands = checkpoint_stands j.version d (file_of old j) n c.in_ok-found.found.1 read.admitted place in
     let bytes : seen (g.P.Station.calls c.read.new.station) c.file-file.result ≡ file_of old j =
-    ap (λ (calls : List Call). seen calls c.file-file.result) (c.in_ok-found.ensures.told observed) ∙ ap (seen old) c.file-file.ensures.file in
+    ap (λ (calls : List Call). seen calls c.file-file.result) (c.in_ok-found.ensures.looks.told observed) ∙ ap (seen old) c.file-file.ensures.file in
     omega (arith, stands.there, ap (λ (l : List ℕ). length l) bytes)
 
 pub returns-clause-said : goal.returns-clause-said
@@ -45,7 +45,7 @@ returns-clause-said g c = λ observed.
     let place : gate + 1 ≡ compacted_bytes j.version n = c.in_ok-found.ensures.begins.place ∙ ap (λ (v : Version). compacted_bytes v n) c.version.ensures in
     let S : List Call → Type 0 = λ calls. SaysHere calls new (take (gate - 41) (drop 41 (seen calls c.file-file.result))) in
     let T : ℕ → Type 0 = λ k. SaysHere old new (take (gate - 41) (drop 41 (seen old k))) in
-    let says = subst T c.file-file.ensures.file (subst S (c.in_ok-found.ensures.told observed) (c.in_ok-say_part.ensures.told observed)) in
+    let says = subst T c.file-file.ensures.file (subst S (c.in_ok-found.ensures.looks.told observed) (c.in_ok-say_part.ensures.told observed)) in
     said_checkpoint d old new j c.pass.new.self c.args.end n (held j.version c.in_ok-found.found.2) gate (c.requires.first observed) packed read place says c.pass.ensures.place
 
 pub returns-in_err-say_part-clause-said : goal.returns-in_err-say_part-clause-said
@@ -63,7 +63,7 @@ returns-in_err-say_part-clause-said g c = λ observed.
     let place : gate + 1 ≡ compacted_bytes j.version n = c.in_ok-found.ensures.begins.place ∙ ap (λ (v : Version). compacted_bytes v n) c.version.ensures in
     let S : List Call → Type 0 = λ calls. SaysFront calls new (on 0 (take (gate - 41) (drop 41 (seen calls c.file-file.result)))) in
     let T : ℕ → Type 0 = λ k. SaysFront old new (on 0 (take (gate - 41) (drop 41 (seen old k)))) in
-    let says = subst T c.file-file.ensures.file (subst S (c.in_ok-found.ensures.told observed) (c.in_err-say_part.ensures.told observed)) in
+    let says = subst T c.file-file.ensures.file (subst S (c.in_ok-found.ensures.looks.told observed) (c.in_err-say_part.ensures.told observed)) in
     rw (returned c.from_residual-in_err-say_part.result c.in_err-say_part.field-0.0 c.from_residual-in_err-say_part.ensures.1)
     (c.in_err-say_part.ensures.kind observed, broken_checkpoint d old new j c.args.end n (held j.version c.in_ok-found.found.2) gate (c.requires.first observed) packed read place says)
 
@@ -79,7 +79,7 @@ returns-in_err-found-clause-said g c = λ observed.
     let quiet = quiet_read j.version d j.file (drop 41 (file_of old j)) c.in_err-found.field-0.0 damage (no_damage d old j c.args.end (c.requires.first observed) packed) in
     rw (returned c.from_residual.result (ship_fault c.in_err-found.field-0.0) c.from_residual.ensures.1) (
       quiet,
-      subst (λ (calls : List Call). SaysFront old calls (on 0 (behind_header d old j))) (sym (c.in_err-found.ensures.told observed)) (fronts_none old (behind_header d old j)),
+      subst (λ (calls : List Call). SaysFront old calls (on 0 (behind_header d old j))) (sym (c.in_err-found.ensures.looks.told observed)) (fronts_none old (behind_header d old j)),
     )
 
 pub returns-in_err-found-clause-named : goal.returns-in_err-found-clause-named

@@ -1,9 +1,11 @@
-use Rattle.std.proofs.Common.{rules, ◌≡◌, ◌+◌, ◌-◌, ℕ, Bool, true, false, cond, Ok, sym, ap, subst, ◌∙◌, arith}
-use Rattle.gts_standby.specs.Cited.{IsAtFirst, first_fault, need, restarted, seen, ship_fault, since_of}
+use Rattle.std.proofs.Common.{rules, ◌≡◌, ◌+◌, ◌-◌, ℕ, Bool, true, false, cond, Ok, Err, refl, sym, ap, subst, ◌∙◌, arith}
+use Rattle.gts_standby.specs.Cited.{IsAtFirst, OpenFault, Rose, first_fault, need, restarted, seen, ship_fault, since_of}
+use Rattle.gts_record.specs.declared.fault.OpenFault.TheVariants as opening
+use Rattle.gts_standby.specs.declared.fault.ShipFault.TheVariants as fault
 use Rattle.gts_standby.proofs.ExitLemmas.{returned}
 use Rattle.gts_traits.proofs.SayLemmas.{said_none}
 use Rattle.gts_standby.proofs.FirstLemmas.{at_first, at_opened, read_to, open_answer, opened_to, never_unopened, says_opened, breaks_opened, failed_quietly, synced_quiet, not_started, quiet_start, no_header_fault, no_fault_where}
-use Rattle.gts_standby.proofs.SinceLemmas.{rest_since, rest_whole, looked_quietly, again_quietly, read_later}
+use Rattle.gts_standby.proofs.SinceLemmas.{rest_since, rest_whole, looked_quietly, again_quietly, read_later, no_say}
 use Rattle.gts_standby.proofs.shipping.ship_since.Goals as goal
 
 pub returns-in_err-open_core-clause-fault : goal.returns-in_err-open_core-clause-fault
@@ -49,7 +51,7 @@ returns-in_err-look_for-clause-fault g c = λ observed.
     let look = g.P.Station.calls c.look_for.new.station in
     rw (returned c.from_residual-in_err-look_for.result c.in_err-look_for.field-0.0 c.from_residual-in_err-look_for.ensures.1)
     (failed_quietly d old mid look c.in_err-look_for.field-0.0 (since_of d old c.args.since.now) (c.in_ok-open_core.ensures.synced observed)
-    (looked_quietly mid now look (c.in_ok-journal.ensures.synced observed) (c.in_err-look_for.ensures.told observed)) (c.in_err-look_for.ensures.found observed))
+    (looked_quietly mid now look (c.in_ok-journal.ensures.synced observed) (c.in_err-look_for.ensures.looks.told observed)) (c.in_err-look_for.ensures.found observed))
 
 pub returns-then-branch-clause-said : goal.returns-then-branch-clause-said
 returns-then-branch-clause-said g c = λ observed.
@@ -65,7 +67,7 @@ returns-then-branch-clause-said g c = λ observed.
     let on : c.in_ok-look_for.field-0 ≡ true = search rules in
     says_opened c.say_records.result d old mid now new (need d (restarted d o.state)) (since_of d old c.args.since.now) (opened_to d old mid c.in_ok-open_core.field-0.1 o.state first (o.stands observed) o.current) first (synced_quiet mid now second)
     (rest_since c.say_records.result d old mid now look new c.in_ok-journal.journal c.look_for.new.journal c.args.since.now (c.used-closed.result - 1) c.in_ok-look_for.field-0 first second c.in_ok-journal.ensures.version
-    (c.in_ok-journal.ensures.stands observed) (c.in_ok-look_for.ensures.told observed) on (c.in_ok-look_for.ensures.found observed) (c.say_records.ensures.said observed d))
+    (c.in_ok-journal.ensures.stands observed) (c.in_ok-look_for.ensures.looks.told observed) on (c.in_ok-look_for.ensures.found observed) (c.say_records.ensures.said observed d))
 
 pub returns-then-branch-clause-fault : goal.returns-then-branch-clause-fault
 returns-then-branch-clause-fault g c = λ observed.
@@ -80,7 +82,7 @@ returns-then-branch-clause-fault g c = λ observed.
     let on : c.in_ok-look_for.field-0 ≡ true = search rules in
     breaks_opened c.say_records.result d old mid now new (since_of d old c.args.since.now) first (synced_quiet mid now second)
     (rest_since c.say_records.result d old mid now look new c.in_ok-journal.journal c.look_for.new.journal c.args.since.now (c.used-closed.result - 1) c.in_ok-look_for.field-0 first second c.in_ok-journal.ensures.version
-    (c.in_ok-journal.ensures.stands observed) (c.in_ok-look_for.ensures.told observed) on (c.in_ok-look_for.ensures.found observed) (c.say_records.ensures.said observed d))
+    (c.in_ok-journal.ensures.stands observed) (c.in_ok-look_for.ensures.looks.told observed) on (c.in_ok-look_for.ensures.found observed) (c.say_records.ensures.said observed d))
 
 pub returns-in_err-whole-clause-fault : goal.returns-in_err-whole-clause-fault
 returns-in_err-whole-clause-fault g c = λ observed.
@@ -94,7 +96,7 @@ returns-in_err-whole-clause-fault g c = λ observed.
     let opened = c.in_ok-open_core.field-0.1 in
     let first = c.in_ok-open_core.ensures.synced observed in
     let second = c.in_ok-journal.ensures.synced observed in
-    let told = c.in_ok-look_for.ensures.told observed in
+    let told = c.in_ok-look_for.ensures.looks.told observed in
     let read = read_later d mid now look (Ok (o.state, opened.gate + 1, opened.seal)) second told (read_to d mid opened o.state (o.stands observed) o.current) in
     let quiet = quiet_start c.in_err-whole.field-0.0 (first_fault c.mark-2.result (seen look)) (c.in_err-whole.ensures.fault observed) (λ f is. no_fault_where d look (o.state, opened.gate + 1, opened.seal) c.mark-2.result f read c.mark-2.ensures is) in
     rw (returned c.from_residual-in_err-whole.result (ship_fault c.in_err-whole.field-0.0) c.from_residual-in_err-whole.ensures.1)
@@ -110,7 +112,7 @@ say_feed-requires-clause-first g c = λ observed.
     let o = c.in_ok-open_core.ensures.opened in
     let opened = c.in_ok-open_core.field-0.1 in
     let whole = c.in_ok-whole.whole in
-    let read = read_later d mid now look (Ok (o.state, opened.gate + 1, opened.seal)) (c.in_ok-journal.ensures.synced observed) (c.in_ok-look_for.ensures.told observed) (read_to d mid opened o.state (o.stands observed) o.current) in
+    let read = read_later d mid now look (Ok (o.state, opened.gate + 1, opened.seal)) (c.in_ok-journal.ensures.synced observed) (c.in_ok-look_for.ensures.looks.told observed) (read_to d mid opened o.state (o.stands observed) o.current) in
     let end : c.used-closed.result - 1 ≡ opened.gate =
     (let u : c.used-closed.result ≡ opened.gate + 1 = c.used-closed.ensures ∙ ap (λ (b : Bool). cond b (opened.gate + 1) opened.gate) o.ended in omega (arith, u)) in
     subst (λ (k : ℕ). IsAtFirst d again whole k) (sym end)
@@ -129,7 +131,7 @@ returns-clause-said g c = λ observed.
     let o = c.in_ok-open_core.ensures.opened in
     let first = c.in_ok-open_core.ensures.synced observed in
     let second = c.in_ok-journal.ensures.synced observed in
-    let told = c.in_ok-look_for.ensures.told observed in
+    let told = c.in_ok-look_for.ensures.looks.told observed in
     let third = c.in_ok-whole.ensures.synced observed in
     let off : c.in_ok-look_for.field-0 ≡ false = search rules in
     says_opened c.say_feed.result d old mid again new (need d (restarted d o.state)) (since_of d old c.args.since.now) (opened_to d old mid c.in_ok-open_core.field-0.1 o.state first (o.stands observed) o.current) first
@@ -148,7 +150,7 @@ returns-clause-fault g c = λ observed.
     let new = g.P.Station.calls c.say_feed.new.station in
     let first = c.in_ok-open_core.ensures.synced observed in
     let second = c.in_ok-journal.ensures.synced observed in
-    let told = c.in_ok-look_for.ensures.told observed in
+    let told = c.in_ok-look_for.ensures.looks.told observed in
     let third = c.in_ok-whole.ensures.synced observed in
     let off : c.in_ok-look_for.field-0 ≡ false = search rules in
     breaks_opened c.say_feed.result d old mid again new (since_of d old c.args.since.now) first (again_quietly mid now look again second told third)
@@ -180,3 +182,31 @@ pub returns-clause-unopened : goal.returns-clause-unopened
 returns-clause-unopened g c = λ observed.
     let o = c.in_ok-open_core.ensures.opened in
     never_unopened c.args.directory.now _ (g.P.Station.calls c.open_core.new.station) _ c.in_ok-open_core.field-0.1 o.state (c.in_ok-open_core.ensures.synced observed) (o.stands observed) o.current
+
+pub returns-in_err-whole-clause-cause : goal.returns-in_err-whole-clause-cause
+returns-in_err-whole-clause-cause g c =
+    let f = c.in_err-whole.field-0.0 in
+    let first = c.in_ok-open_core.ensures.cause in
+    let second = c.in_ok-journal.ensures.cause in
+    let third = c.in_ok-look_for.ensures.looks in
+    let last = c.in_err-whole.ensures.cause in
+    let disk : g.P.Station.disk_faults c.look_for.new.station ≡ g.P.Station.disk_faults c.args.station.now = third.sound ∙ second.sound ∙ first.sound in
+    let say : g.P.Station.say_faults c.start-2.new.station ≡ g.P.Station.say_faults c.args.station.now = last.say ∙ third.say ∙ second.say ∙ first.say in
+    rw (returned c.from_residual-in_err-whole.result (ship_fault f) c.from_residual-in_err-whole.ensures.1)
+    (record {
+      disk_fault = λ is.
+          subst (λ (k : ℕ). Rose k (g.P.Station.disk_faults c.start-2.new.station)) disk
+          (last.failed (ap (λ (e : OpenFault). Err e) (disk_opening f (let e : ship_fault f ≡ fault.DiskFault = cc is in e))));
+      say_fault = λ is. absurd (no_say f (let e : ship_fault f ≡ fault.SayFault = cc is in e));
+      later = omega (arith, disk, last.later);
+      say = omega (arith, say);
+      sound = tt;
+    })
+  where
+    disk_opening : (f : OpenFault) → ship_fault f ≡ fault.DiskFault → f ≡ opening.DiskFault
+    disk_opening opening.DiskFault is = refl
+    disk_opening opening.NoMemory is = absurd (cc is)
+    disk_opening opening.NoJournal is = absurd (cc is)
+    disk_opening opening.OldVersion is = absurd (cc is)
+    disk_opening (opening.NotThis want found) is = absurd (cc is)
+    disk_opening (opening.Damaged file at) is = absurd (cc is)

@@ -26,7 +26,7 @@ returns-clause-passed g c = λ observed end place last first.
     let K : Version → Type 0 = λ v. HasRead v d (bytes_from old j.file 41) n (held v c.in_ok-found.found.2) in
     let read = subst K c.version.ensures (subst H c.file-file.ensures.file (c.in_ok-found.ensures.found observed)) in
     let begins : gate + 1 ≡ compacted_bytes j.version n = c.in_ok-found.ensures.begins.place ∙ ap (λ (v : Version). compacted_bytes v n) c.version.ensures in
-    before_packed d old _ j c.pass.new.self end place last n (held j.version c.in_ok-found.found.2) gate first packed read begins (c.in_ok-found.ensures.told observed) c.pass.ensures.place
+    before_packed d old _ j c.pass.new.self end place last n (held j.version c.in_ok-found.found.2) gate first packed read begins (c.in_ok-found.ensures.looks.told observed) c.pass.ensures.place
 
 pub returns-in_err-found-clause-passed : goal.returns-in_err-found-clause-passed
 returns-in_err-found-clause-passed g c = λ observed end place last first.

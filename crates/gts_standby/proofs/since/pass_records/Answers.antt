@@ -1,4 +1,4 @@
-use Rattle.std.proofs.Common.{◌≡◌, ◌+◌, Bool, cond, refl, ap, ◌∙◌, arith}
+use Rattle.std.proofs.Common.{◌≡◌, ◌+◌, Bool, cond, ap, ◌∙◌, arith}
 use Rattle.gts_standby.specs.Cited.{file_of, ship_fault}
 use Rattle.gts_standby.specs.declared.fault.ShipFault.TheVariants as fault
 use Rattle.gts_standby.proofs.ExitLemmas.{returned}
@@ -18,10 +18,10 @@ loop-station-preserved g c =
       passed = λ observed d end place last found it within.
           let record_passed = c.in_ok-pass_next.ensures.passed observed in
           before_on d (g.P.Station.calls c.loop-station.station) _ j c.pass_next.new.journal record_passed.0 end place last found (inv.passed observed d end place last found it within)
-          record_passed.1 record_passed.2 (omega (arith, at_gate, c.loop-station-test.true, within.1)) (c.in_ok-pass_next.ensures.told observed);
-      told = λ observed. c.pass_next.ensures.told observed ∙ inv.told observed;
-      sound = c.in_ok-pass_next.ensures.counts.sound refl ∙ inv.sound;
-      say = c.pass_next.ensures.counts.say ∙ inv.say;
+          record_passed.1 record_passed.2 (omega (arith, at_gate, c.loop-station-test.true, within.1)) (c.in_ok-pass_next.ensures.looks.told observed);
+      told = λ observed. c.pass_next.ensures.looks.told observed ∙ inv.told observed;
+      sound = c.in_ok-pass_next.ensures.looks.sound ∙ inv.sound;
+      say = c.pass_next.ensures.looks.say ∙ inv.say;
     }
 
 pub returns-in_err-pass_next-clause-passed : goal.returns-in_err-pass_next-clause-passed

@@ -29,5 +29,5 @@ loop-self-preserved g c = record {
   passes = λ observed.
       passes-then g.S.Source.left (unpacking_of c.args.self.now) (unpacking_of c.loop-self.self) (unpacking_of c.read_on.new.self) []
       (c.loop-self.invariant.passes observed) (c.read_on.ensures.passes observed);
-  steady = c.in_ok-read_on.ensures.steady ∙ c.loop-self.invariant.steady;
+  steady = c.in_ok-read_on.ensures.cause.sound ∙ c.loop-self.invariant.steady;
 }

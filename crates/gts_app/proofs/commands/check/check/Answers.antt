@@ -1,7 +1,5 @@
 use Rattle.std.proofs.Common.{ℕ, List, ◌++◌, Err, refl, sym, ap, subst, ◌∙◌}
-use Rattle.std.proofs.lemmas.Option.{none-some}
-use Rattle.gts_app.specs.Cited.{OpenFault, ReadsDirectory, ReadsOldDirectory, TakesOver, changes, need}
-use Rattle.gts_directory.proofs.TakingOverLemmas.{none_from}
+use Rattle.gts_app.specs.Cited.{OpenFault, TakesOver, changes, need}
 use Rattle.gts_app.proofs.TryingLemmas.{new_unread, old_unread, not_opened, reported, not_said}
 use Rattle.gts_app.proofs.SoundLemmas.{unread, old_unread as old_unread_fails, refusal_fails}
 use Rattle.gts_app.proofs.commands.check.check.Goals as goal
@@ -9,80 +7,53 @@ use Rattle.gts_app.proofs.commands.check.check.Goals as goal
 pub returns-in-Err-clause-tries : goal.returns-in-Err-clause-tries
 returns-in-Err-clause-tries g c =
     new_unread g.S.Source g.P.Station c.in-Err.status c.args.world.now.directory c.directory_file_of.new.source c.args.world.now.capture c.args.world.now.station
-    (subst (λ r. ReadsDirectory g.S.Source r c.args.world.now.directory c.directory_file_of.new.source) c.in-Err.is c.directory_file_of.ensures)
+    c.in-Err.ensures
 
 pub returns-in-Err-old_directory_file_of-clause-tries : goal.returns-in-Err-old_directory_file_of-clause-tries
 returns-in-Err-old_directory_file_of-clause-tries g c =
-    let od = c.args.world.now.directory in
-    let nd = c.directory_file_of.new.source in
-    let oc = c.args.world.now.capture in
-    let nc = c.old_directory_file_of.new.source in
-    old_unread g.S.Source g.P.Station c.in-Err-old_directory_file_of.status c.in-Ok.file od nd oc nc c.args.world.now.station
-    (subst (λ r. ReadsDirectory g.S.Source r od nd) c.in-Ok.is c.directory_file_of.ensures)
-    (subst (λ r. ReadsOldDirectory g.S.Source r oc nc) c.in-Err-old_directory_file_of.is c.old_directory_file_of.ensures)
+    old_unread g.S.Source g.P.Station c.in-Err-old_directory_file_of.status c.in-Ok.file _ _ _ _ c.args.world.now.station c.in-Ok.ensures
+    c.in-Err-old_directory_file_of.ensures
 
 pub returns-in-Err-changes-clause-tries : goal.returns-in-Err-changes-clause-tries
 returns-in-Err-changes-clause-tries g c =
-    let od = c.args.world.now.directory in
-    let nd = c.directory_file_of.new.source in
-    let oc = c.args.world.now.capture in
-    let nc = c.old_directory_file_of.new.source in
     let d = c.in-Ok.file in
     let o = c.in-Ok-old_directory_file_of.file in
-    let first = subst (λ r. ReadsDirectory g.S.Source r od nd) c.in-Ok.is c.directory_file_of.ensures in
-    let second = subst (λ r. ReadsOldDirectory g.S.Source r oc nc) c.in-Ok-old_directory_file_of.is c.old_directory_file_of.ensures in
     let takes = subst (λ x. TakesOver x o) c.directory.ensures (subst (λ x. TakesOver c.directory.result.now x) c.directory-2.ensures (c.in_default.ensures.takes_over.0 refl)) in
     let e = c.in-Err-changes.ensures in
-    not_opened g.S.Source g.P.Station d o od nd oc nc first second takes (λ change is. none-some change (sym (none_from d o takes) ∙ is))
-    c.args.world.now.station c.changes.new.station e.told e.later e.say c.in-Err-changes.fault c.refusal.result c.refusal.ensures e.fault e.never_older
-    (λ disk. e.disk_fault (ap (λ (fault : OpenFault). Err fault) disk))
+    not_opened g.S.Source g.P.Station d o _ _ _ _ c.in-Ok.ensures c.in-Ok-old_directory_file_of.ensures takes c.args.world.now.station c.changes.new.station e.told e.cause.later e.cause.say c.in-Err-changes.fault c.refusal.result c.refusal.ensures e.fault e.never_older
+    (λ disk. e.cause.failed (ap (λ (fault : OpenFault). Err fault) disk))
 
 pub returns-in-Err-say-clause-tries : goal.returns-in-Err-say-clause-tries
 returns-in-Err-say-clause-tries g c =
-    let od = c.args.world.now.directory in
-    let nd = c.directory_file_of.new.source in
-    let oc = c.args.world.now.capture in
-    let nc = c.old_directory_file_of.new.source in
     let d = c.in-Ok.file in
     let o = c.in-Ok-old_directory_file_of.file in
-    let first = subst (λ r. ReadsDirectory g.S.Source r od nd) c.in-Ok.is c.directory_file_of.ensures in
-    let second = subst (λ r. ReadsOldDirectory g.S.Source r oc nc) c.in-Ok-old_directory_file_of.is c.old_directory_file_of.ensures in
     let takes = subst (λ x. TakesOver x o) c.directory.ensures (subst (λ x. TakesOver c.directory.result.now x) c.directory-2.ensures (c.in_default.ensures.takes_over.0 refl)) in
     let e = c.in_default-changes.ensures in
     let s = c.in-Err-say.ensures in
-    not_said g.S.Source g.P.Station d o od nd oc nc first second takes (λ change is. none-some change (sym (none_from d o takes) ∙ is))
-    c.args.world.now.station c.changes.new.station c.say.new.self c.bytes.result.now
+    not_said g.S.Source g.P.Station d o _ _ _ _ c.in-Ok.ensures c.in-Ok-old_directory_file_of.ensures takes c.args.world.now.station c.changes.new.station c.say.new.self c.bytes.result.now
     (λ t.
     let x = e.report t in
     (x.0, x.1, x.2, c.bytes.ensures ∙ x.3 ∙ ap (λ (text : List ℕ). text ++ changes d o (need o x.0)) c.new-text.ensures))
-    e.synced e.later e.say s.cause.later s.disk s.told (s.cause.failed refl)
+    e.synced e.cause.later e.cause.say s.cause.later s.disk s.told (s.cause.failed refl)
 
 pub returns-clause-tries : goal.returns-clause-tries
 returns-clause-tries g c =
-    let od = c.args.world.now.directory in
-    let nd = c.directory_file_of.new.source in
-    let oc = c.args.world.now.capture in
-    let nc = c.old_directory_file_of.new.source in
     let d = c.in-Ok.file in
     let o = c.in-Ok-old_directory_file_of.file in
-    let first = subst (λ r. ReadsDirectory g.S.Source r od nd) c.in-Ok.is c.directory_file_of.ensures in
-    let second = subst (λ r. ReadsOldDirectory g.S.Source r oc nc) c.in-Ok-old_directory_file_of.is c.old_directory_file_of.ensures in
     let takes = subst (λ x. TakesOver x o) c.directory.ensures (subst (λ x. TakesOver c.directory.result.now x) c.directory-2.ensures (c.in_default.ensures.takes_over.0 refl)) in
     let e = c.in_default-changes.ensures in
     let s = c.in-Ok-say.ensures in
-    reported g.S.Source g.P.Station d o od nd oc nc first second takes (λ change is. none-some change (sym (none_from d o takes) ∙ is))
-    c.args.world.now.station c.changes.new.station c.say.new.self c.bytes.result.now
+    reported g.S.Source g.P.Station d o _ _ _ _ c.in-Ok.ensures c.in-Ok-old_directory_file_of.ensures takes c.args.world.now.station c.changes.new.station c.say.new.self c.bytes.result.now
     (λ t.
     let x = e.report t in
     (x.0, x.1, x.2, c.bytes.ensures ∙ x.3 ∙ ap (λ (text : List ℕ). text ++ changes d o (need o x.0)) c.new-text.ensures))
-    e.synced e.later e.say s.cause.later s.disk s.told
+    e.synced e.cause.later e.cause.say s.cause.later s.disk s.told
 
 pub returns-in-Err-clause-sound : goal.returns-in-Err-clause-sound
-returns-in-Err-clause-sound g c = λ is. absurd (unread g.S.Source c.in-Err.status c.args.world.now.directory c.directory_file_of.new.source c.in-Err.ensures is)
+returns-in-Err-clause-sound g c = λ is. absurd (unread c.in-Err.ensures is)
 
 pub returns-in-Err-old_directory_file_of-clause-sound : goal.returns-in-Err-old_directory_file_of-clause-sound
-returns-in-Err-old_directory_file_of-clause-sound g c = λ is.
-    absurd (old_unread_fails g.S.Source c.in-Err-old_directory_file_of.status c.args.world.now.capture c.old_directory_file_of.new.source c.in-Err-old_directory_file_of.ensures is)
+returns-in-Err-old_directory_file_of-clause-sound g c = λ is. absurd (old_unread_fails c.in-Err-old_directory_file_of.ensures is)
 
 pub returns-in-Err-changes-clause-sound : goal.returns-in-Err-changes-clause-sound
 returns-in-Err-changes-clause-sound g c = λ is. absurd (refusal_fails c.in-Err-changes.fault (sym c.refusal.ensures ∙ is))
@@ -91,6 +62,6 @@ pub returns-clause-sound : goal.returns-clause-sound
 returns-clause-sound g c = λ is. record {
   directory = c.in-Ok.ensures.cause.sound;
   capture = c.in-Ok-old_directory_file_of.ensures.cause.sound;
-  disk = c.in-Ok-say.ensures.disk ∙ c.in_default-changes.ensures.sound;
-  say = c.in-Ok-say.ensures.sound ∙ c.in_default-changes.ensures.say;
+  disk = c.in-Ok-say.ensures.disk ∙ c.in_default-changes.ensures.cause.sound;
+  say = c.in-Ok-say.ensures.cause.sound ∙ c.in_default-changes.ensures.cause.say;
 }

@@ -6,14 +6,11 @@ use Rattle.gts_app.proofs.SoundLemmas.{unopened, no_table, said, on_ok}
 use Rattle.gts_app.proofs.commands.count.count.Goals as goal
 
 pub returns-in-Err-clause-counts : goal.returns-in-Err-clause-counts
-returns-in-Err-clause-counts g c =
-    let r = c.in-Err.field-0 in
-    not_counted g.S.Source g.P.Station r.status c.args.world.directory c.open_engine.new.directory c.args.world.capture c.args.world.station r.station c.open_engine.result c.in-Err.is c.open_engine.ensures
+returns-in-Err-clause-counts g c = not_counted _ _ c.in-Err.field-0.status _ _ _ _ c.in-Err.field-0.station c.in-Err.ensures
 
 pub returns-in-Err-count_beside-clause-counts : goal.returns-in-Err-count_beside-clause-counts
 returns-in-Err-count_beside-clause-counts g c =
-    without_numbers g.S.Source g.P.Station c.args.world.directory c.open_engine.new.directory c.args.world.capture c.args.world.station c.in-Ok.engine c.open_engine.result c.in-Ok.is
-    c.open_engine.ensures c.into_parts-station.result.0
+    without_numbers g.S.Source g.P.Station c.args.world.directory c.open_engine.new.directory c.args.world.capture c.args.world.station c.in-Ok.engine c.in-Ok.ensures c.into_parts-station.result.0
     (c.into_parts-station.ensures.station ∙ ap (λ (e : Engine g.row.P.Denot). e.station) c.in-Err-count_beside.ensures.err)
 
 pub returns-in-Err-table-clause-counts : goal.returns-in-Err-table-clause-counts
@@ -51,15 +48,13 @@ returns-clause-counts g c =
     (said_so (λ (x : Counted (Engine g.row.P.Denot)). x.parts) g.S.Source g.P.Station c.replay-end.result od nd c.args.world.capture c.replay-end.new.capture c.args.world.station first last
     opens c.in-Ok-count_beside.ensures.counts (λ n es keeps sound. c.a_history_keeps_its_laws.ensures first.parts.switch.directory n es keeps sound) c.replay-end.ensures.ends few
     c.replay-end.ensures.cause files c.in-Ok-table.ensures.table.0 c.as_slice.result.now
-    (subst (ShowsTable (switch_meanings g.P.Station.observed g.P.Station.calls) last.parts) (sym c.as_slice.ensures.value) c.in-Ok-table.ensures.table.1)
+    (subst (ShowsTable (switch_meanings g.P.Station) last.parts) (sym c.as_slice.ensures.value) c.in-Ok-table.ensures.table.1)
     c.say.result c.into_parts-station-2.result.0 c.say.new.self
     (c.into_parts-station-2.ensures.station ∙ ap (λ (e : Engine g.row.P.Denot). e.station) c.into_inner-engine.ensures)
     c.say.ensures.told c.say.ensures.cause c.say.ensures.disk)
 
 pub returns-in-Err-clause-sound : goal.returns-in-Err-clause-sound
-returns-in-Err-clause-sound g c = λ is.
-    let r = c.in-Err.field-0 in
-    absurd (unopened g.S.Source g.P.Station r.status c.args.world.directory c.open_engine.new.directory c.args.world.station r.station c.in-Err.ensures is)
+returns-in-Err-clause-sound g c = λ is. absurd (unopened c.in-Err.ensures is)
 
 pub returns-in-Err-table-clause-sound : goal.returns-in-Err-table-clause-sound
 returns-in-Err-table-clause-sound g c = λ is. absurd (no_table c.replay-end.result c.in-Err-table.status c.in-Err-table.ensures.none is)
@@ -76,6 +71,6 @@ returns-clause-sound g c = λ is.
       directory = opened.2;
       capture = still.2;
       disk = c.say.ensures.disk ∙ ap g.P.Station.disk_faults c.into_parts-station-2.ensures.station ∙ ap disks c.into_inner-engine.ensures ∙ still.0 ∙ ap disks switch ∙ opened.0;
-      say = on_ok c.say.result so c.say.ensures.sound ∙ ap g.P.Station.say_faults c.into_parts-station-2.ensures.station ∙ ap says c.into_inner-engine.ensures ∙ still.1 ∙ ap says switch
+      say = on_ok c.say.result so c.say.ensures.cause.sound ∙ ap g.P.Station.say_faults c.into_parts-station-2.ensures.station ∙ ap says c.into_inner-engine.ensures ∙ still.1 ∙ ap says switch
           ∙ opened.1;
     }

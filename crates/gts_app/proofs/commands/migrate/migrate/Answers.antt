@@ -1,7 +1,4 @@
-use Rattle.std.proofs.Common.{refl, sym, subst, ◌∙◌}
-use Rattle.std.proofs.lemmas.Option.{none-some}
-use Rattle.gts_directory.proofs.TakingOverLemmas.{none_from}
-use Rattle.gts_app.specs.Reading.{ReadsDirectory, ReadsOldDirectory}
+use Rattle.std.proofs.Common.{refl, sym, ◌∙◌}
 use Rattle.gts_app.proofs.MigrateLemmas.{new_unread, old_unread, taken_over}
 use Rattle.gts_app.proofs.SoundLemmas.{unread, old_unread as old_unread_fails, migrated, on_ok, says_nothing}
 use Rattle.gts_app.proofs.commands.migrate.migrate.Goals as goal
@@ -9,32 +6,20 @@ use Rattle.gts_app.proofs.commands.migrate.migrate.Goals as goal
 pub returns-in-Err-clause-migrates : goal.returns-in-Err-clause-migrates
 returns-in-Err-clause-migrates g c =
     new_unread c.args.waiting g.S.Source g.P.Station c.in-Err.status c.args.world.directory c.directory_of.new.source c.args.world.capture c.args.world.station
-    (subst (λ r. ReadsDirectory g.S.Source r c.args.world.directory c.directory_of.new.source) c.in-Err.is c.directory_of.ensures)
+    c.in-Err.ensures
 
 pub returns-in-Err-old_directory_of-clause-migrates : goal.returns-in-Err-old_directory_of-clause-migrates
 returns-in-Err-old_directory_of-clause-migrates g c =
-    let od = c.args.world.directory in
-    let nd = c.directory_of.new.source in
-    let oc = c.args.world.capture in
-    let nc = c.old_directory_of.new.source in
-    old_unread c.args.waiting g.S.Source g.P.Station c.in-Err-old_directory_of.status c.in-Ok.directory od nd oc nc c.args.world.station
-    (subst (λ r. ReadsDirectory g.S.Source r od nd) c.in-Ok.is c.directory_of.ensures)
-    (subst (λ r. ReadsOldDirectory g.S.Source r oc nc) c.in-Err-old_directory_of.is c.old_directory_of.ensures)
+    old_unread c.args.waiting g.S.Source g.P.Station c.in-Err-old_directory_of.status c.in-Ok.directory _ _ _ _ c.args.world.station c.in-Ok.ensures
+    c.in-Err-old_directory_of.ensures
 
 pub returns-in-Ok-takes_over-clause-migrates : goal.returns-in-Ok-takes_over-clause-migrates
 returns-in-Ok-takes_over-clause-migrates g c =
-    let od = c.args.world.directory in
-    let nd = c.directory_of.new.source in
-    let oc = c.args.world.capture in
-    let nc = c.old_directory_of.new.source in
     let d = c.in-Ok.directory in
     let o = c.in-Ok-old_directory_of.directory in
-    let first = subst (λ r. ReadsDirectory g.S.Source r od nd) c.in-Ok.is c.directory_of.ensures in
-    let second = subst (λ r. ReadsOldDirectory g.S.Source r oc nc) c.in-Ok-old_directory_of.is c.old_directory_of.ensures in
     let takes = c.in-Ok-takes_over.ensures.takes_over.0 refl in
     let m = c.migrate-station in
-    taken_over c.args.waiting g.S.Source g.P.Station d o od nd oc nc first second takes
-    (λ change is. none-some change (sym (none_from d o takes) ∙ is)) c.args.world.station m.result.0 m.result.1 c.status_of-status.result c.status_of-status.ensures
+    taken_over c.args.waiting g.S.Source g.P.Station d o _ _ _ _ c.in-Ok.ensures c.in-Ok-old_directory_of.ensures takes c.args.world.station m.result.0 m.result.1 c.status_of-status.result c.status_of-status.ensures
     (record {
       moments = m.ensures.moments;
       migrated = m.ensures.migrated;
@@ -42,18 +27,17 @@ returns-in-Ok-takes_over-clause-migrates g c =
       waiting = m.ensures.waiting;
       answers = m.ensures.opening;
       told = m.ensures.told;
-      disk = m.ensures.disk;
+      disk = m.ensures.counts.failed;
       said = m.ensures.said;
-      says = m.ensures.say;
+      says = m.ensures.counts.say;
       unsaid = m.ensures.unsaid;
-    }) m.ensures.silent m.ensures.later
+    }) m.ensures.silent m.ensures.counts.later
 
 pub returns-in-Err-clause-sound : goal.returns-in-Err-clause-sound
-returns-in-Err-clause-sound g c = λ is. absurd (unread g.S.Source c.in-Err.status c.args.world.directory c.directory_of.new.source c.in-Err.ensures is)
+returns-in-Err-clause-sound g c = λ is. absurd (unread c.in-Err.ensures is)
 
 pub returns-in-Err-old_directory_of-clause-sound : goal.returns-in-Err-old_directory_of-clause-sound
-returns-in-Err-old_directory_of-clause-sound g c = λ is.
-    absurd (old_unread_fails g.S.Source c.in-Err-old_directory_of.status c.args.world.capture c.old_directory_of.new.source c.in-Err-old_directory_of.ensures is)
+returns-in-Err-old_directory_of-clause-sound g c = λ is. absurd (old_unread_fails c.in-Err-old_directory_of.ensures is)
 
 pub returns-in-Ok-takes_over-clause-sound : goal.returns-in-Ok-takes_over-clause-sound
 returns-in-Ok-takes_over-clause-sound g c = λ is.
@@ -62,6 +46,6 @@ returns-in-Ok-takes_over-clause-sound g c = λ is.
     record {
       directory = c.in-Ok.ensures.cause.sound;
       capture = c.in-Ok-old_directory_of.ensures.cause.sound;
-      disk = on_ok m.result.1 done m.ensures.sound;
-      say = says_nothing m.result.1 done m.ensures.say;
+      disk = on_ok m.result.1 done m.ensures.counts.sound;
+      say = says_nothing m.result.1 done m.ensures.counts.say;
     }

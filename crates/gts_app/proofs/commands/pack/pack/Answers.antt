@@ -1,5 +1,5 @@
 use Rattle.std.proofs.Common.{sym, subst, ◌∙◌}
-use Rattle.gts_app.specs.Cited.{PacksStream, ReadsDirectory, Status, world}
+use Rattle.gts_app.specs.Cited.{PacksStream, Status, world}
 use Rattle.gts_app.proofs.StreamLemmas.{pack_unread, pack_ends}
 use Rattle.gts_app.proofs.SoundLemmas.{unread, packed}
 use Rattle.gts_app.proofs.commands.pack.pack.Goals as goal
@@ -7,19 +7,18 @@ use Rattle.gts_app.proofs.commands.pack.pack.Goals as goal
 pub returns-in-Err-clause-packs : goal.returns-in-Err-clause-packs
 returns-in-Err-clause-packs g c =
     pack_unread g.S.Source g.P.Station c.in-Err.status c.args.world.now.directory c.directory_of.new.source c.args.world.now.capture c.args.world.now.station
-    (subst (λ r. ReadsDirectory g.S.Source r c.args.world.now.directory c.directory_of.new.source) c.in-Err.is c.directory_of.ensures)
+    c.in-Err.ensures
 
 pub returns-clause-packs : goal.returns-clause-packs
 returns-clause-packs g c =
     let od = c.args.world.now.directory in
     let nd = c.directory_of.new.source in
-    let read = subst (λ r. ReadsDirectory g.S.Source r od nd) c.in-Ok.is c.directory_of.ensures in
     let e = c.pack-packed.ensures in
     subst (λ (s : Status). PacksStream g.S.Source g.P.Station s (world od c.args.world.now.capture c.args.world.now.station) (world nd c.pack-packed.new.stream c.pack-packed.new.station)) (sym c.status_of.ensures)
-    (pack_ends g.S.Source g.P.Station c.in-Ok.accepted c.pack-packed.result od nd c.args.world.now.capture c.pack-packed.new.stream c.args.world.now.station c.pack-packed.new.station read e.packs e.unmade e.files e.source e.say e.disk)
+    (pack_ends g.S.Source g.P.Station c.in-Ok.accepted c.pack-packed.result od nd c.args.world.now.capture c.pack-packed.new.stream c.args.world.now.station c.pack-packed.new.station c.in-Ok.ensures e.packs e.unmade e.files e.source e.say e.disk)
 
 pub returns-in-Err-clause-sound : goal.returns-in-Err-clause-sound
-returns-in-Err-clause-sound g c = λ is. absurd (unread g.S.Source c.in-Err.status c.args.world.now.directory c.directory_of.new.source c.in-Err.ensures is)
+returns-in-Err-clause-sound g c = λ is. absurd (unread c.in-Err.ensures is)
 
 pub returns-clause-sound : goal.returns-clause-sound
 returns-clause-sound g c = λ is.

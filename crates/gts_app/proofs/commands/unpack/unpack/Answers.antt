@@ -1,6 +1,6 @@
 use Rattle.std.proofs.Common.{◌≡◌, ◌<◌, ◌≤◌, Ok, length, refl, sym, ap, subst, arith, ◌∙◌}
 use Rattle.gts_directory.specs.Directory as directories
-use Rattle.gts_app.specs.Cited.{IsUnfailedFile, Opens, ReadsDirectory, directory_of_bytes}
+use Rattle.gts_app.specs.Cited.{IsUnfailedFile, directory_of_bytes}
 use Rattle.gts_app.proofs.UnpackLemmas.{unpacks, unaccepted, unopened, no-circuit, done-is}
 use Rattle.gts_app.proofs.SoundLemmas.{unread, unopened as unopened_fails}
 use Rattle.gts_app.proofs.commands.unpack.unpack.Goals as goal
@@ -9,15 +9,14 @@ pub returns-in-Err-clause-unpacks : goal.returns-in-Err-clause-unpacks
 returns-in-Err-clause-unpacks g c =
     let od = c.args.world.directory in
     let nd = c.directory_of.new.source in
-    unaccepted g.S.Source g.P.Station c.args.c c.in-Err.status od nd c.args.world.capture c.args.world.station
-    (subst (λ r. ReadsDirectory g.S.Source r od nd) c.in-Err.is c.directory_of.ensures)
+    unaccepted g.S.Source g.P.Station c.args.c c.in-Err.status od nd c.args.world.capture c.args.world.station c.in-Err.ensures
 
 pub returns-then-circuits-c-clause-unpacks : goal.returns-then-circuits-c-clause-unpacks
 returns-then-circuits-c-clause-unpacks g c =
     let od = c.args.world.directory in
     let nd = c.directory_of.new.source in
     no-circuit g.S.Source g.P.Station c.args.c c.in-Ok.directory od nd c.args.world.capture c.args.world.station
-    (subst (λ r. ReadsDirectory g.S.Source r od nd) c.in-Ok.is c.directory_of.ensures) (omega (arith, c.circuits.ensures.value, c.if-circuits-c.true))
+    c.in-Ok.ensures (omega (arith, c.circuits.ensures.value, c.if-circuits-c.true))
 
 pub returns-in-Err-open_journal-clause-unpacks : goal.returns-in-Err-open_journal-clause-unpacks
 returns-in-Err-open_journal-clause-unpacks g c =
@@ -25,10 +24,9 @@ returns-in-Err-open_journal-clause-unpacks g c =
     let od = c.args.world.directory in
     let nd = c.directory_of.new.source in
     let d : directories.Directory = c.in-Ok.directory in
-    let read = subst (λ r. ReadsDirectory g.S.Source r od nd) c.in-Ok.is c.directory_of.ensures in
     unopened g.S.Source g.P.Station c.args.c r.status d od nd c.args.world.capture c.args.world.station r.station
-    c.open_journal.result c.in-Err-open_journal.is (c.open_journal.ensures.opens od nd read)
-    (omega (arith, c.circuits.ensures.value, c.if-circuits-c.false)) (λ observed. read.read observed d refl)
+    (c.in-Err-open_journal.ensures.opens od nd c.in-Ok.ensures)
+    (omega (arith, c.circuits.ensures.value, c.if-circuits-c.false)) (λ observed. c.in-Ok.ensures.read observed d refl)
 
 pub returns-clause-unpacks : goal.returns-clause-unpacks
 returns-clause-unpacks g c =
@@ -36,27 +34,24 @@ returns-clause-unpacks g c =
     let nd = c.directory_of.new.source in
     let d : directories.Directory = c.in-Ok.directory in
     let first = c.in-Ok-open_journal.engine in
-    let read = subst (λ r. ReadsDirectory g.S.Source r od nd) c.in-Ok.is c.directory_of.ensures in
     let same : first.directory ≡ d = c.in-Ok-open_journal.ensures.directory in
     let count : length first.directory.circuits ≡ length d.circuits = ap (λ (x : directories.Directory). length x.circuits) same in
     let few : length first.directory.circuits ≤ 100 = omega (arith, count, c.circuits.ensures.value, c.circuits.ensures.few) in
     let here : c.args.c < length first.directory.circuits = omega (arith, count, c.circuits.ensures.value, c.if-circuits-c.false) in
     rw (c.status_of-status.ensures, c.into_parts-station.ensures.station) (
     unpacks g.S.Source g.P.Station c.args.c c.unpack-end.result.0 od nd c.args.world.capture c.unpack-end.result.1 c.args.world.station first c.unpack-end.new.switch
-    (subst (λ r. Opens g.S.Source g.P.Station r od nd c.args.world.station) c.in-Ok-open_journal.is (c.open_journal.ensures.opens od nd read))
+    (c.in-Ok-open_journal.ensures.opens od nd c.in-Ok.ensures)
     (λ n es keeps sound. c.a_history_keeps_its_laws.ensures first.directory n es keeps sound) c.unpack-end.ensures.ends few here
-    (λ observed. subst (λ (x : directories.Directory). directory_of_bytes (g.S.Source.left od) ≡ Ok x) (sym same) (read.read observed d refl))
+    (λ observed. subst (λ (x : directories.Directory). directory_of_bytes (g.S.Source.left od) ≡ Ok x) (sym same) (c.in-Ok.ensures.read observed d refl))
     c.unpack-end.ensures.cause c.used-used.ensures.files
     )
 
 pub returns-in-Err-clause-sound : goal.returns-in-Err-clause-sound
-returns-in-Err-clause-sound g c = λ is. absurd (unread g.S.Source c.in-Err.status c.args.world.directory c.directory_of.new.source c.in-Err.ensures is)
+returns-in-Err-clause-sound g c = λ is. absurd (unread c.in-Err.ensures is)
 
 pub returns-in-Err-open_journal-clause-sound : goal.returns-in-Err-open_journal-clause-sound
 returns-in-Err-open_journal-clause-sound g c = λ is.
-    let r = c.in-Err-open_journal.field-0 in
-    absurd (unopened_fails g.S.Source g.P.Station r.status c.args.world.directory c.directory_of.new.source c.args.world.station r.station
-    (c.in-Err-open_journal.ensures.opens c.args.world.directory c.directory_of.new.source c.in-Ok.ensures) is)
+    absurd (unopened_fails (c.in-Err-open_journal.ensures.opens c.args.world.directory c.directory_of.new.source c.in-Ok.ensures) is)
 
 pub returns-clause-sound : goal.returns-clause-sound
 returns-clause-sound g c = λ is.

@@ -2,4 +2,4 @@ use Rattle.gts_circuits.proofs.TurningLemmas.{taken}
 use Rattle.gts_circuits.proofs.hall.laws.a_desk_answers_what_its_turn_took.Goals as goal
 
 pub returns : goal.returns
-returns g c = taken g.P.Station.observed g.P.Station.calls g.P.Station.disk_faults g.P.Station.say_faults
+returns g c = taken g.P.Station

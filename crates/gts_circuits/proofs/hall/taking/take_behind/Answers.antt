@@ -14,9 +14,9 @@ loop-gave-preserved g c =
     let places : length frames ≡ length c.loop-gave.given.frames.each = count_frames c.loop-gave.given.frames.each c.loop-gave.given.frames.bytes in
     record {
       taken = λ h start.
-          let has : List Frame → Bool → Type 0 = λ l b. HasTaken g.P.Station.observed g.P.Station.calls g.P.Station.disk_faults g.P.Station.say_faults g.B.Began.beginning h c.args.c l b new in
-          let before = subst (λ (b : Bool). HasTaken g.P.Station.observed g.P.Station.calls g.P.Station.disk_faults g.P.Station.say_faults g.B.Began.beginning h c.args.c frames b c.loop-gave.housed.engine) c.loop-gave-test.true (i.taken h start) in
-          let after = one_behind g.P.Station.observed g.P.Station.calls g.P.Station.disk_faults g.P.Station.say_faults g.B.Began.beginning h c.args.c frames c.in-Some.outcome c.take_behind.new.out c.loop-gave.housed.engine new
+          let has : List Frame → Bool → Type 0 = λ l b. HasTaken g.P.Station g.B.Began.beginning h c.args.c l b new in
+          let before = subst (λ (b : Bool). HasTaken g.P.Station g.B.Began.beginning h c.args.c frames b c.loop-gave.housed.engine) c.loop-gave-test.true (i.taken h start) in
+          let after = one_behind g.P.Station g.B.Began.beginning h c.args.c frames c.in-Some.outcome c.take_behind.new.out c.loop-gave.housed.engine new
           before c.in-Some.ensures.called c.in-Some.ensures.gathered c.in-Some.ensures.frame c.take_behind.ensures.sound.0 c.take_behind.ensures.sound.1 (c.take_behind.ensures.silent before.silent) in
           subst (λ (l : List Frame). has l c.keep-gave.result) (sym are) (subst (λ (b : Bool). has (frames ++ frames_by c.in-Some.outcome c.take_behind.new.out) b) (sym c.keep-gave.ensures.gave) after);
       few = omega (arith, count, places, c.count.ensures, c.if-count-most.true);
@@ -27,6 +27,6 @@ loop-gave-preserved g c =
 pub returns-in_default-clause-taken : goal.returns-in_default-clause-taken
 returns-in_default-clause-taken g c = λ h start.
     let frames : List Frame = frames_of c.loop-gave.given.frames in
-    let has : Bool → Engine _ → Type 0 = λ b e. HasTaken g.P.Station.observed g.P.Station.calls g.P.Station.disk_faults g.P.Station.say_faults g.B.Began.beginning h c.args.c frames b e in
+    let has : Bool → Engine _ → Type 0 = λ b e. HasTaken g.P.Station g.B.Began.beginning h c.args.c frames b e in
     let before = subst (λ (b : Bool). has b c.loop-gave.housed.engine) c.loop-gave-test.true (c.loop-gave.invariant.taken h start) in
     subst (λ (e : Engine _). has true e) (sym c.in_default.ensures.none) before

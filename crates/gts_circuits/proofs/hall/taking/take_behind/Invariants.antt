@@ -5,8 +5,8 @@ use Rattle.gts_circuits.proofs.hall.taking.take_behind.Given as goal
 -- so far takes gave these frames
 abbrev pub invariant-loop-gave : goal.invariant-loop-gave
 invariant-loop-gave g l = record {
-  taken : (h : List Entry) → HasTaken g.P.Station.observed g.P.Station.calls g.P.Station.disk_faults g.P.Station.say_faults g.B.Began.beginning h l.c (frames_of l.fn.given.frames) l.fn.gave l.fn.housed.engine
-      → HasTaken g.P.Station.observed g.P.Station.calls g.P.Station.disk_faults g.P.Station.say_faults g.B.Began.beginning h l.c (frames_of l.given.frames) l.gave l.housed.engine;
+  taken : (h : List Entry) → HasTaken g.P.Station g.B.Began.beginning h l.c (frames_of l.fn.given.frames) l.fn.gave l.fn.housed.engine
+      → HasTaken g.P.Station g.B.Began.beginning h l.c (frames_of l.given.frames) l.gave l.housed.engine;
   few : count_of (frames_of l.given.frames) l.gave ≤ l.most;
   directory : l.housed.engine.directory ≡ l.fn.housed.engine.directory;
   mode : l.housed.makes_room ≡ l.fn.housed.makes_room;

@@ -8,7 +8,7 @@ use Rattle.gts_circuits.proofs.hall.turns.feed.Goals as goal
 pub leave-requires : goal.leave-requires
 leave-requires g c =
     let b = g.B.Began.beginning in
-    let meanings = N (λ (h : _). h.engine) (λ (h : _). h.makes_room) g.P.Station.observed g.P.Station.calls g.P.Station.disk_faults g.P.Station.say_faults b in
+    let meanings = N (λ (h : _). h.engine) (λ (h : _). h.makes_room) g.P.Station b in
     let h = c.in-Ok.turn.pass.seen in
     let first = c.value.result.now in
     let mid = c.feed_behind-fed.new.switch in
@@ -27,9 +27,9 @@ leave-requires g c =
     let G : Decoding → ℕ → Type 0 = λ d n. GoesOver meanings c.args.c begun c.args.step d first (take n c.args.piece.now) message c.feed_behind-fed.result.end mid in
     let goes : G g.start c.settle_behind-fed.result.taken =
     subst (G g.start) (sym c.settle_behind-fed.ensures.taken) (subst (λ (d : Decoding). G d c.feed_behind-fed.result.taken) (sym c.requires.1.1.1.1.1.1.1.1.1) c.feed_behind-fed.ensures.goes) in
-    let done = fed_more (λ (h : _). h.engine) (λ (h : _). h.makes_room) g.P.Station.observed g.P.Station.calls g.P.Station.disk_faults g.P.Station.say_faults b f h first mid c.value-2.result.now
+    let done = fed_more (λ (h : _). h.engine) (λ (h : _). h.makes_room) g.P.Station b f h first mid c.value-2.result.now
     c.settle_behind-fed.new.switch c.feed_behind-fed.result.end stood goes c.value-2.ensures.value c.settle_behind-fed.ensures.settles in
-    let K : _ → Type 0 = λ w. (more : List Entry) × AddsFor g.P.Station.observed g.P.Station.calls g.P.Station.disk_faults g.P.Station.say_faults b f h w.engine more × (w.makes_room ≡ b.makes_room) in
+    let K : _ → Type 0 = λ w. (more : List Entry) × AddsFor g.P.Station b f h w.engine more × (w.makes_room ≡ b.makes_room) in
     let all = subst K (sym c.value-3.ensures.value) done in
     record { value = (all.0, all.1, all.1.stands); mode = all.2 }
 
@@ -45,7 +45,7 @@ returns-clause-added g c = λ before reads.
     let A : Known (List Entry) → Type 0 = λ k. c.leave.result ≡ after_adding k p.0 in
     let is = subst A t p.2 in
     subst (λ (es : List Event). Feeds c.args.c es message c.settle_behind-fed.result.end (seen_by b c.args.pass) (seen_by b c.leave.result)) (sym (p.1.are before reads))
-    (feeds g.P.Station.observed g.P.Station.calls g.P.Station.disk_faults g.P.Station.say_faults b c.args.pass c.leave.result h c.value-3.result.now.engine c.in-Ok.ensures.later c.requires.1.1.1.1.0 same
+    (feeds g.P.Station b c.args.pass c.leave.result h c.value-3.result.now.engine c.in-Ok.ensures.later c.requires.1.1.1.1.0 same
     c.args.c p.1.events message c.settle_behind-fed.result.end p.0 p.1.added is p.1.stands)
 
 pub returns-clause-takes : goal.returns-clause-takes
@@ -62,7 +62,7 @@ returns-clause-takes g c = λ before reads.
 
 pub returns-clause-short : goal.returns-clause-short
 returns-clause-short g c =
-    short_settled (N (λ (h : _). h.engine) (λ (h : _). h.makes_room) g.P.Station.observed g.P.Station.calls g.P.Station.disk_faults g.P.Station.say_faults g.B.Began.beginning)
+    short_settled (N (λ (h : _). h.engine) (λ (h : _). h.makes_room) g.P.Station g.B.Began.beginning)
     c.feed_behind-fed.result.end c.settle_behind-fed.result.end c.value-2.result.now c.settle_behind-fed.new.switch c.feed_behind-fed.new.decoder.message c.settle_behind-fed.ensures.settles c.feed_behind-fed.ensures.short
 
 pub returns-in-Err-clause-added : goal.returns-in-Err-clause-added

@@ -14,5 +14,5 @@ ghosts-leave g a = record {
         message = a._done.now.1.now.message;
         end = a._done.now.5.end;
       } in
-      AddsFor g.P.Station.observed g.P.Station.calls g.P.Station.disk_faults g.P.Station.say_faults g.B.Began.beginning fed a.turn.pass.seen a.turn.value.engine more;
+      AddsFor g.P.Station g.B.Began.beginning fed a.turn.pass.seen a.turn.value.engine more;
 }

@@ -1,7 +1,7 @@
 use Rattle.std.proofs.Common.{◌≡◌, ◌⊎◌, ℕ, ◌<◌, ◌≤◌, ◌++◌, List, length, vec_len}
 use mathlib.Core.Option.{some}
 use lib.ListN.{get_elem?}
-use Rattle.gts_circuits.specs.Cited.{Incoming, IsClosed, IsSame, Outgoing, ends_of, first_fault, seen_lines}
+use Rattle.gts_circuits.specs.Cited.{Incoming, IsClosed, IsSame, Outgoing, ends_of, first_fault, lines_seen}
 use Rattle.gts_circuits.proofs.service.closing.close_all.Given as goal
 
 -- the last circuits are closed, and the others are as they were
@@ -11,10 +11,10 @@ invariant-loop-to g l = record {
   behind : (from : List (Incoming _)) × (to : List (Outgoing _)) × (l.incoming.items ++ from ≡ l.fn.incoming.items) × (l.outgoing.items ++ to ≡ l.fn.outgoing.items)
       × (l.end ≡ first_fault (length l.outgoing.items) (ends_of from to));
   closed : (k : ℕ) (x : Incoming _) (y : Outgoing _) → length l.outgoing.items ≤ k → get_elem? l.fn.incoming.items k ≡ some x → get_elem? l.fn.outgoing.items k ≡ some y
-      → IsClosed g.L.In.Source.observed g.L.In.Source.begun g.L.In.Source.left g.L.In.Source.faults g.L.Out.Sink.observed g.L.Out.Sink.written g.L.Out.Sink.faults
-      (seen_lines g.L.Lines.is_open g.L.Lines.faults g.L.Lines.place g.L.Lines.bytes l.fn.lines) (seen_lines g.L.Lines.is_open g.L.Lines.faults g.L.Lines.place g.L.Lines.bytes l.lines) k x.source y.sink;
+      → IsClosed g.L.In.Source g.L.Out.Sink
+      (lines_seen g.L.Lines l.fn.lines) (lines_seen g.L.Lines l.lines) k x.source y.sink;
   others : (k : ℕ) → (k < length l.outgoing.items) ⊎ (length l.fn.outgoing.items ≤ k)
-      → IsSame (seen_lines g.L.Lines.is_open g.L.Lines.faults g.L.Lines.place g.L.Lines.bytes l.fn.lines) (seen_lines g.L.Lines.is_open g.L.Lines.faults g.L.Lines.place g.L.Lines.bytes l.lines) k;
+      → IsSame (lines_seen g.L.Lines l.fn.lines) (lines_seen g.L.Lines l.lines) k;
 }
 
 abbrev pub decreases-loop-to : goal.decreases-loop-to

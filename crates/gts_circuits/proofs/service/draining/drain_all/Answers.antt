@@ -14,7 +14,7 @@ loop-c-preserved g c =
     let less : k < length xs = omega (arith, c.loop-c-test.true, i.count, c.args.lines.now.ok.0) in
     record {
       count = count_set xs k y ∙ i.count;
-      drained = drained_more g.P.Station.observed g.P.Station.calls g.P.Station.disk_faults g.P.Station.say_faults g.B.Began.beginning
-          g.K.Sink.observed g.K.Sink.written g.K.Sink.faults c.args.pass.now.seen xs (slice_set xs k y) k x y c.loop-c.housed.engine c.drain.new.housed.engine
+      drained = drained_more g.P.Station g.B.Began.beginning
+          g.K.Sink c.args.pass.now.seen xs (slice_set xs k y) k x y c.loop-c.housed.engine c.drain.new.housed.engine
           i.drained c.drain.ensures.drained (item_at xs k x less ∙ ap (λ (z : _). some z) (sym c.index_mut.ensures.value)) (set_at xs k y less) (not_set xs k y);
     }

@@ -6,6 +6,6 @@ use Rattle.gts_circuits.proofs.service.draining.drain_all.Given as goal
 abbrev pub invariant-loop-c : goal.invariant-loop-c
 invariant-loop-c g l = record {
   count : length l.lines.items ≡ length l.fn.lines.items;
-  drained : AreDrained g.P.Station.observed g.P.Station.calls g.P.Station.disk_faults g.P.Station.say_faults g.B.Began.beginning
-      g.K.Sink.observed g.K.Sink.written g.K.Sink.faults l.pass.seen l.lines.items l.c l.housed.engine;
+  drained : AreDrained g.P.Station g.B.Began.beginning
+      g.K.Sink l.pass.seen l.lines.items l.c l.housed.engine;
 }

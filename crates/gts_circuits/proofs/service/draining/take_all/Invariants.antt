@@ -7,7 +7,7 @@ abbrev pub invariant-loop : goal.invariant-loop
 invariant-loop g l = record {
   directory : l.housed.engine.directory ≡ l.fn.housed.engine.directory;
   taken : (bytes : List ℕ)
-      × TakesSome g.P.Station.observed g.P.Station.calls g.P.Station.disk_faults g.P.Station.say_faults g.B.Began.beginning l.fn.c bytes l.fn.housed.engine l.housed.engine
+      × TakesSome g.P.Station g.B.Began.beginning l.fn.c bytes l.fn.housed.engine l.housed.engine
       × (g.K.Sink.observed → g.K.Sink.written l.sink ≡ g.K.Sink.written l.fn.sink ++ bytes);
   sound : g.K.Sink.faults l.sink ≡ g.K.Sink.faults l.fn.sink;
   can : (goal.iterator-loop g).can_next l.iterator' × (goal.iterator-loop g).is_finite l.iterator';

@@ -9,7 +9,7 @@ returns-in_err-outcome-clause-taken g c =
     let e = c.in_err-outcome in
     let p = err_from_is_err_and c.from_residual.result c.from_residual.ensures.1 in (
       [],
-      rw (p.1, p.2) (once_failed g.P.Station.observed g.P.Station.calls g.P.Station.disk_faults g.P.Station.say_faults g.B.Began.beginning c.args.c
+      rw (p.1, p.2) (once_failed g.P.Station g.B.Began.beginning c.args.c
           c.take.new.out c.args.housed.now.engine c.take.new.self.engine e.field-0.0 e.ensures.adds e.ensures.silent e.ensures.no_memory),
       (λ observed. sym (append-nil (g.K.Sink.written c.args.sink.now))),
     )
@@ -19,7 +19,7 @@ returns-clause-taken g c =
     let o = c.in_ok-outcome in
     let w = c.write_given.ensures.wrote in (
       w.0,
-      once_given g.P.Station.observed g.P.Station.calls g.P.Station.disk_faults g.P.Station.say_faults g.B.Began.beginning c.args.c
+      once_given g.P.Station g.B.Began.beginning c.args.c
           c.take.new.out c.args.housed.now.engine c.take.new.self.engine o.outcome w.0 c.write_given.result o.ensures.adds w.1,
       w.2,
     )

@@ -1,7 +1,7 @@
 use Rattle.std.proofs.Common.{◌≡◌, ℕ, ◌<◌, ◌≤◌, ◌++◌, length}
 use mathlib.Core.Option.{some}
 use lib.ListN.{get_elem?}
-use Rattle.gts_circuits.specs.Cited.{IsClosed, IsSame, Sockets, seen_lines}
+use Rattle.gts_circuits.specs.Cited.{IsClosed, IsSame, Sockets, lines_seen}
 use Rattle.gts_circuits.proofs.service.opening.close_opened.Given as goal
 
 -- the circuits so far are closed, and the others are as they were
@@ -11,7 +11,7 @@ invariant-loop-both g l = record {
   split : l.yielded ++ l.both-iterator.rest.items ≡ l.fn.sockets.items;
   place : l.c ≡ length l.yielded;
   closed : (k : ℕ) (x : Sockets _ _) → k < l.c → get_elem? l.fn.sockets.items k ≡ some x
-      → IsClosed g.L.In.Source.observed g.L.In.Source.begun g.L.In.Source.left g.L.In.Source.faults g.L.Out.Sink.observed g.L.Out.Sink.written g.L.Out.Sink.faults
-      (seen_lines g.L.Lines.is_open g.L.Lines.faults g.L.Lines.place g.L.Lines.bytes l.fn.lines) (seen_lines g.L.Lines.is_open g.L.Lines.faults g.L.Lines.place g.L.Lines.bytes l.lines) k x.source x.sink;
-  others : (k : ℕ) → l.c ≤ k → IsSame (seen_lines g.L.Lines.is_open g.L.Lines.faults g.L.Lines.place g.L.Lines.bytes l.fn.lines) (seen_lines g.L.Lines.is_open g.L.Lines.faults g.L.Lines.place g.L.Lines.bytes l.lines) k;
+      → IsClosed g.L.In.Source g.L.Out.Sink
+      (lines_seen g.L.Lines l.fn.lines) (lines_seen g.L.Lines l.lines) k x.source x.sink;
+  others : (k : ℕ) → l.c ≤ k → IsSame (lines_seen g.L.Lines l.fn.lines) (lines_seen g.L.Lines l.lines) k;
 }

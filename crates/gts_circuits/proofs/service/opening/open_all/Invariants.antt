@@ -1,5 +1,5 @@
 use Rattle.std.proofs.Common.{◌≡◌, ◌≤◌, ◌++◌, length, map, vec_capacity}
-use Rattle.gts_circuits.specs.Cited.{AreOpened, place_asked, seen_lines}
+use Rattle.gts_circuits.specs.Cited.{AreOpened, lines_seen, place_asked}
 use Rattle.gts_circuits.proofs.service.opening.open_all.Given as goal
 
 -- the circuits so far are open
@@ -10,6 +10,6 @@ invariant-loop-room g l = record {
   place : l.c ≡ length l.yielded;
   count : length l.sockets.items ≡ length l.yielded;
   room : length l.fn.rooms.items ≤ vec_capacity l.sockets;
-  opened : AreOpened g.L.In.Source.observed g.L.In.Source.begun g.L.In.Source.left g.L.In.Source.faults g.L.Out.Sink.observed g.L.Out.Sink.written g.L.Out.Sink.faults
-      (seen_lines g.L.Lines.is_open g.L.Lines.faults g.L.Lines.place g.L.Lines.bytes l.fn.lines) (seen_lines g.L.Lines.is_open g.L.Lines.faults g.L.Lines.place g.L.Lines.bytes l.lines) (map place_asked l.fn.rooms.items) l.fn.connections l.sockets.items l.c;
+  opened : AreOpened g.L.In.Source g.L.Out.Sink
+      (lines_seen g.L.Lines l.fn.lines) (lines_seen g.L.Lines l.lines) (map place_asked l.fn.rooms.items) l.fn.connections l.sockets.items l.c;
 }

@@ -11,8 +11,8 @@ close_all-end-requires-clause-open g c κs within = λ k less.
 pub returns-clause-finished : goal.returns-clause-finished
 returns-clause-finished g c =
     let many = c.drain_all.ensures.count ∙ ap (λ (l : List (Outgoing _)). length l) c.part.ensures.outgoing in
-    let D : ℕ → Type 0 = λ n. AreDrained g.P.Station.observed g.P.Station.calls g.P.Station.disk_faults g.P.Station.say_faults g.B.Began.beginning
-    g.L.Out.Sink.observed g.L.Out.Sink.written g.L.Out.Sink.faults c.args.ran.pass.seen c.drain_all.new.lines.items n c.drain_all.new.housed.engine in
+    let D : ℕ → Type 0 = λ n. AreDrained g.P.Station g.B.Began.beginning
+    g.L.Out.Sink c.args.ran.pass.seen c.drain_all.new.lines.items n c.drain_all.new.housed.engine in
     record {
       sinks = c.drain_all.new.lines.items;
       count = many;

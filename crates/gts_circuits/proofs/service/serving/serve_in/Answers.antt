@@ -11,8 +11,8 @@ close_opened-requires-clause-open g c κs within =
 
 pub returns-in_default : goal.returns-in_default
 returns-in_default g c =
-    let P : Served _ _ → Type 0 = λ v. IsServed g.P.Station.observed g.P.Station.calls g.P.Station.disk_faults g.P.Station.say_faults g.B.Began.beginning g.L.In.Source g.L.Out.Sink.observed c.args.connections (lines_seen g.L.Lines c.args.lines.now) (lines_seen g.L.Lines c.args.lines.now) v.pass v.end v.engine in
-    let S : Known (List Entry) → Type 0 = λ k. Stands g.P.Station.observed g.P.Station.calls g.P.Station.disk_faults g.P.Station.say_faults g.B.Began.beginning (all_of (entries k.seen)) c.close-housed.result.0.engine in
+    let P : Served _ _ → Type 0 = λ v. IsServed g.P.Station g.B.Began.beginning g.L.In.Source g.L.Out.Sink.observed c.args.connections (lines_seen g.L.Lines c.args.lines.now) (lines_seen g.L.Lines c.args.lines.now) v.pass v.end v.engine in
+    let S : Known (List Entry) → Type 0 = λ k. Stands g.P.Station g.B.Began.beginning (all_of (entries k.seen)) c.close-housed.result.0.engine in
     subst P (sym c.unserved.ensures) (
       subst S c.requires.new c.close-housed.ensures.value.0,
       λ k. record { is_open = refl; faults = refl; place = refl; bytes = refl },
@@ -21,11 +21,11 @@ returns-in_default g c =
 pub returns-in-Err : goal.returns-in-Err
 returns-in-Err g c =
     let e = c.in-Err.ensures in
-    let P : Served _ _ → Type 0 = λ v. IsServed g.P.Station.observed g.P.Station.calls g.P.Station.disk_faults g.P.Station.say_faults g.B.Began.beginning g.L.In.Source g.L.Out.Sink.observed c.args.connections (lines_seen g.L.Lines c.args.lines.now) (lines_seen g.L.Lines c.close_opened.new.lines) v.pass v.end v.engine in
-    let S : Known (List Entry) → Type 0 = λ k. Stands g.P.Station.observed g.P.Station.calls g.P.Station.disk_faults g.P.Station.say_faults g.B.Began.beginning (all_of (entries k.seen)) c.close-housed-in-Err.result.0.engine in
+    let P : Served _ _ → Type 0 = λ v. IsServed g.P.Station g.B.Began.beginning g.L.In.Source g.L.Out.Sink.observed c.args.connections (lines_seen g.L.Lines c.args.lines.now) (lines_seen g.L.Lines c.close_opened.new.lines) v.pass v.end v.engine in
+    let S : Known (List Entry) → Type 0 = λ k. Stands g.P.Station g.B.Began.beginning (all_of (entries k.seen)) c.close-housed-in-Err.result.0.engine in
     subst P (sym c.unserved-in-Err.ensures) (
       subst S c.requires.new c.close-housed-in-Err.ensures.value.0,
-      stops g.L.In.Source g.L.Out.Sink.observed g.L.Out.Sink.written g.L.Out.Sink.faults (map place_asked c.args.room.rooms.items) c.args.connections (lines_seen g.L.Lines c.args.lines.now) (lines_seen g.L.Lines c.open_all.new.lines) (lines_seen g.L.Lines c.close_opened.new.lines) g.B.Began.beginning.origin.directory c.requires.places c.open_all.new.sockets.items c.in-Err.c
+      stops g.L.In.Source g.L.Out.Sink (map place_asked c.args.room.rooms.items) c.args.connections (lines_seen g.L.Lines c.args.lines.now) (lines_seen g.L.Lines c.open_all.new.lines) (lines_seen g.L.Lines c.close_opened.new.lines) g.B.Began.beginning.origin.directory c.requires.places c.open_all.new.sockets.items c.in-Err.c
           (omega (arith, e.place.1, c.requires.circuits)) e.place.0 e.failed.0 e.failed.1 e.stopped c.close_opened.ensures.closed c.close_opened.ensures.others,
     )
 
@@ -36,9 +36,9 @@ returns g c =
     let e = are_ended g.B.Began.beginning g.L.In.Source g.L.Out.Sink c.args.hall c.close.result.pass.seen ss c.close.result.lines.items c.in_default-open_all.ensures.opened count
     (c.close.ensures.lines ss c.run_all-first.ensures.ended) c.close.ensures.few in
     let circuits = c.in_default-open_all.ensures.count ∙ c.requires.circuits in
-    let s = served g.L.In.Source g.L.Out.Sink.observed g.L.Out.Sink.written g.L.Out.Sink.faults (map place_asked c.args.room.rooms.items) c.args.connections (lines_seen g.L.Lines c.args.lines.now) (lines_seen g.L.Lines c.open_all.new.lines) (lines_seen g.L.Lines c.finish.new.lines) g.P.Station.observed g.P.Station.calls g.P.Station.disk_faults g.P.Station.say_faults g.B.Began.beginning ss c.close.result.lines.items c.close.result.pass.seen c.finish.result.end c.finish.result.engine
+    let s = served g.L.In.Source g.L.Out.Sink (map place_asked c.args.room.rooms.items) c.args.connections (lines_seen g.L.Lines c.args.lines.now) (lines_seen g.L.Lines c.open_all.new.lines) (lines_seen g.L.Lines c.finish.new.lines) g.P.Station g.B.Began.beginning ss c.close.result.lines.items c.close.result.pass.seen c.finish.result.end c.finish.result.engine
     circuits c.in_default-open_all.ensures.opened c.requires.places e.sources_are e.sinks_are e.each_source (c.close.ensures.names ss c.run_all-first.ensures.ended) c.finish.ensures.finished c.close.ensures.few c.close.result.pass.full c.close.ensures.full in
-    let P : Option (Known (List Entry)) → Type 0 = λ q. IsServed g.P.Station.observed g.P.Station.calls g.P.Station.disk_faults g.P.Station.say_faults g.B.Began.beginning g.L.In.Source g.L.Out.Sink.observed c.args.connections (lines_seen g.L.Lines c.args.lines.now) (lines_seen g.L.Lines c.finish.new.lines) q c.finish.result.end c.finish.result.engine in
+    let P : Option (Known (List Entry)) → Type 0 = λ q. IsServed g.P.Station g.B.Began.beginning g.L.In.Source g.L.Out.Sink.observed c.args.connections (lines_seen g.L.Lines c.args.lines.now) (lines_seen g.L.Lines c.finish.new.lines) q c.finish.result.end c.finish.result.engine in
     subst P (sym c.finish.ensures.pass) s
 
 pub finish-requires-clause-ended : goal.finish-requires-clause-ended
@@ -79,7 +79,7 @@ finish-requires-clause-stands g c κs within =
     let count = ap (λ (v : _). length v.items) c.close.ensures.kept ∙ c.run_all-first.ensures.count in
     let e = are_ended g.B.Began.beginning g.L.In.Source g.L.Out.Sink c.args.hall c.close.result.pass.seen ss c.close.result.lines.items c.in_default-open_all.ensures.opened count
     (c.close.ensures.lines ss c.run_all-first.ensures.ended) c.close.ensures.few in
-    none_drained g.P.Station.observed g.P.Station.calls g.P.Station.disk_faults g.P.Station.say_faults g.B.Began.beginning g.L.Out.Sink.observed g.L.Out.Sink.written g.L.Out.Sink.faults c.close.result.pass.seen (outgoing_of c.close.result.lines.items) c.close.result.housed.engine c.close.ensures.engine e.each_sink
+    none_drained g.P.Station g.B.Began.beginning g.L.Out.Sink c.close.result.pass.seen (outgoing_of c.close.result.lines.items) c.close.result.housed.engine c.close.ensures.engine e.each_sink
 
 pub finish-requires-clause-open : goal.finish-requires-clause-open
 finish-requires-clause-open g c κs within =

@@ -28,7 +28,7 @@ returns-clause-full g c =
 pub returns-clause-engine : goal.returns-clause-engine
 returns-clause-engine g c =
     let closed = c.close-housed.ensures in
-    let S : List Entry → Type 0 = λ es. Stands g.P.Station.observed g.P.Station.calls g.P.Station.disk_faults g.P.Station.say_faults g.B.Began.beginning es c.close-housed.result.0.engine in
+    let S : List Entry → Type 0 = λ es. Stands g.P.Station g.B.Began.beginning es c.close-housed.result.0.engine in
     let P : Known (List Entry) → Type 0 = λ k. S (entries (flat k.seen)) in
     subst P (sym closed.pass) (subst S (sym (entries_flat c.args.first.seen)) closed.value.0)
 

@@ -24,11 +24,11 @@ loop-worker-preserved g c =
     let lines = c.loop-worker.lines.items in
     let one : StartsWith (after_join first pass).seen first.seen = let P : Known (List Entry) → Type 0 = λ k. StartsWith k.seen first.seen in subst P c.join-first.ensures.pass c.join-first.ensures.first_seen in
     let other : StartsWith (after_join first pass).seen pass.seen = let P : Known (List Entry) → Type 0 = λ k. StartsWith k.seen pass.seen in subst P c.join-first.ensures.pass c.join-first.ensures.other_seen in
-    let more = one_gathered b g.S.Source.observed g.S.Source.begun g.S.Source.left g.S.Source.faults g.K.Sink.observed g.K.Sink.written g.K.Sink.faults first pass lines line c.args.workers.items (length c.loop-worker.yielded) c.in-Some.worker at
+    let more = one_gathered b g.S.Source g.K.Sink first pass lines line c.args.workers.items (length c.loop-worker.yielded) c.in-Some.worker at
     (sym i.joined) (i.lines ∙ sym i.joined) one other c.finish-pass.ensures.keeps c.finish-pass.ensures.ended i.gathered in
-    let A : Known (List Entry) → Type 0 = λ k. AreGathered b g.S.Source.observed g.S.Source.begun g.S.Source.left g.S.Source.faults g.K.Sink.observed g.K.Sink.written g.K.Sink.faults k (lines ++ line ∷ []) (length c.loop-worker.yielded + 1) c.args.workers.items in
-    let B : List (Line _ _) → Type 0 = λ l. AreGathered b g.S.Source.observed g.S.Source.begun g.S.Source.left g.S.Source.faults g.K.Sink.observed g.K.Sink.written g.K.Sink.faults c.join-first.result l (length c.loop-worker.yielded + 1) c.args.workers.items in
-    let C : ℕ → Type 0 = λ n. AreGathered b g.S.Source.observed g.S.Source.begun g.S.Source.left g.S.Source.faults g.K.Sink.observed g.K.Sink.written g.K.Sink.faults c.join-first.result c.push_reserved.new.self.items n c.args.workers.items in
+    let A : Known (List Entry) → Type 0 = λ k. AreGathered b g.S.Source g.K.Sink k (lines ++ line ∷ []) (length c.loop-worker.yielded + 1) c.args.workers.items in
+    let B : List (Line _ _) → Type 0 = λ l. AreGathered b g.S.Source g.K.Sink c.join-first.result l (length c.loop-worker.yielded + 1) c.args.workers.items in
+    let C : ℕ → Type 0 = λ n. AreGathered b g.S.Source g.K.Sink c.join-first.result c.push_reserved.new.self.items n c.args.workers.items in
     record {
       can = (tt, tt);
       split = append_assoc c.loop-worker.yielded (c.in-Some.worker ∷ []) c.next.new.self.rest.items ∙ split;
@@ -44,7 +44,7 @@ returns-clause-gathered g c =
     let i = c.loop-worker.invariant in
     let rest = c.loop-worker.worker-iterator.rest in
     let whole : c.loop-worker.yielded ≡ c.args.workers.items = nothing_left c.loop-worker.yielded rest.items c.args.workers.items i.split (sym rest.ok.0 ∙ c.in-None.ensures.steps.0) in
-    let C : ℕ → Type 0 = λ n. AreGathered g.B.Began.beginning g.S.Source.observed g.S.Source.begun g.S.Source.left g.S.Source.faults g.K.Sink.observed g.K.Sink.written g.K.Sink.faults c.loop-worker.first c.loop-worker.lines.items n c.args.workers.items in
+    let C : ℕ → Type 0 = λ n. AreGathered g.B.Began.beginning g.S.Source g.K.Sink c.loop-worker.first c.loop-worker.lines.items n c.args.workers.items in
     subst C (ap (λ (l : _). length l) whole) i.gathered
 
 pub returns-clause-joined : goal.returns-clause-joined

@@ -11,5 +11,5 @@ invariant-loop-worker g l = record {
   joined : length l.first.joined ≡ length l.yielded;
   lines : length l.lines.items ≡ length l.yielded;
   room : length l.fn.workers.items ≤ vec_capacity l.lines;
-  gathered : AreGathered g.B.Began.beginning g.S.Source.observed g.S.Source.begun g.S.Source.left g.S.Source.faults g.K.Sink.observed g.K.Sink.written g.K.Sink.faults l.first l.lines.items (length l.yielded) l.fn.workers.items;
+  gathered : AreGathered g.B.Began.beginning g.S.Source g.K.Sink l.first l.lines.items (length l.yielded) l.fn.workers.items;
 }

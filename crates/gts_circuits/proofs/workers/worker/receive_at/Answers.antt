@@ -22,7 +22,5 @@ returns-clause-keeps g c =
       gave = r.3;
       through = r.4;
       ended = c.receive-end.ensures.ended;
-      later = c.receive-end.ensures.later;
-      fault = c.receive-end.ensures.fault;
-      sound = c.receive-end.ensures.sound;
+      cause = c.receive-end.ensures.cause;
     }

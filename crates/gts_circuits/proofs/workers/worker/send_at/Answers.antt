@@ -24,7 +24,5 @@ returns-clause-keeps g c =
       bytes = s.0;
       sent = subst N (sym c.into_pass.ensures.pass) s.1;
       told = s.2;
-      later = c.send-end.ensures.later;
-      fault = c.send-end.ensures.fault;
-      sound = c.send-end.ensures.sound;
+      cause = c.send-end.ensures.cause;
     }

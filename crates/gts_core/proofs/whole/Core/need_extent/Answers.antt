@@ -8,7 +8,6 @@ use Rattle.gts_core.proofs.whole.Core.need_extent.Goals as goal
 
 pub extent_in-requires-clause-stored : goal.extent_in-requires-clause-stored
 extent_in-requires-clause-stored c =
-    let i = c.self.inside in
     let v = c.self.invariant in
     omega (
       arith,
@@ -16,7 +15,7 @@ extent_in-requires-clause-stored c =
       v.parts.lanes,
       ap length v.parts.kept,
       length-map v.directory.circuits row_plan,
-      length-map i.store.circuits plan_of,
+      length-map c.self.inside.store.circuits plan_of,
     )
 
 pub extent_in-requires-clause-few : goal.extent_in-requires-clause-few

@@ -42,13 +42,12 @@ here_by c =
 
 pub invariant_of-self : goal.invariant_of-self
 invariant_of-self c =
-    let i = c.self.inside in
     let v = c.self.invariant in
     record {
       directory = v.directory;
       state = after v.directory v.state (Taken c.args.c);
       parts = (led c v.directory v.state v.parts (here_by c)).1;
-      few = omega (arith, length-set i.lanes.items c.args.c c.take_on-outcome.new.lane, v.few);
+      few = omega (arith, length-set c.self.inside.lanes.items c.args.c c.take_on-outcome.new.lane, v.few);
       room = λ e. absurd (true≢false (sym e));
     }
 
@@ -66,7 +65,6 @@ returns-clause-step c = λ d.
 
 pub returns-clause-given : goal.returns-clause-given
 returns-clause-given c =
-    let i = c.self.inside in
     let v = c.self.invariant in
     let k = c.args.c in
     let o = c.take_on-outcome.result in
@@ -76,7 +74,7 @@ returns-clause-given c =
       bodies = c.take_on-outcome.ensures.bodies;
       given = c.take_on-outcome.ensures.given;
       says = λ n held d s was.
-          let h : Holds d (core_of i) s = subst (λ (x : Core). Holds d x s) (sym c.self.view_is) was in
+          let h : Holds d (core_of c.self.inside) s = subst (λ (x : Core). Holds d x s) (sym c.self.view_is) was in
           let t = h.state in
           let here : k < length d.circuits = omega (arith, c.requires, ap (λ (x : Core). length x.kept) c.self.view_is, ap length h.kept, length-map d.circuits row_plan) in
           let steps = led c d t h.parts here in

@@ -12,13 +12,13 @@ pub returns-in_err-need-clause-moments : goal.returns-in_err-need-clause-moments
 returns-in_err-need-clause-moments g c = λ tell.
     let p = c.self.inside.parts in
     let T : Engine g.row.P.Denot → Type 0 = λ e. e.stopped ≡ None → StaysAt e.directory e.core (g.P.Station.calls e.station) (g.P.Station.calls p.station) in
-    subst T c.self.view_is (λ going s holds. stays_at g.P.Station.observed p.directory (g.P.Station.calls p.station) p.core p.journal (idle_going g.P.Station.observed g.P.Station.calls p c.self.invariant going (ap gathered_of c.self.view_is ∙ c.requires)) tell s holds)
+    subst T c.self.view_is (λ going s holds. stays_at g.P.Station.observed p.directory (g.P.Station.calls p.station) p.core p.journal (idle_going g.P.Station p c.self.invariant going (ap gathered_of c.self.view_is ∙ c.requires)) tell s holds)
 
 pub returns-in_err-check_room-clause-moments : goal.returns-in_err-check_room-clause-moments
 returns-in_err-check_room-clause-moments g c = λ tell.
     let p = c.self.inside.parts in
     let T : Engine g.row.P.Denot → Type 0 = λ e. e.stopped ≡ None → StaysAt e.directory e.core (g.P.Station.calls e.station) (g.P.Station.calls p.station) in
-    subst T c.self.view_is (λ going s holds. stays_at g.P.Station.observed p.directory (g.P.Station.calls p.station) p.core p.journal (idle_going g.P.Station.observed g.P.Station.calls p c.self.invariant going (ap gathered_of c.self.view_is ∙ c.requires)) tell s holds)
+    subst T c.self.view_is (λ going s holds. stays_at g.P.Station.observed p.directory (g.P.Station.calls p.station) p.core p.journal (idle_going g.P.Station p c.self.invariant going (ap gathered_of c.self.view_is ∙ c.requires)) tell s holds)
 
 pub returns-clause-moments : goal.returns-clause-moments
 returns-clause-moments g c = λ tell.

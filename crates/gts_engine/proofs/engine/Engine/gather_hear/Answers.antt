@@ -1,5 +1,5 @@
 use Rattle.std.proofs.Common.{◌≡◌, ℕ, List, Err, subst}
-use Rattle.gts_engine.specs.Cited.{AnswersFull, Engine, HadRoomFor, HasCallCause, HasOnlySettled, Heard, IsAnswered, SayMode, Station, Stopped, engine_of, meanings_of, outcome, stopped_after}
+use Rattle.gts_engine.specs.Cited.{AnswersFull, Engine, HadRoomFor, HasOnlySettled, HasStationCause, Heard, IsAnswered, SayMode, Station, Stopped, engine_of, meanings_of, outcome, stopped_after}
 use Rattle.gts_engine.proofs.SettlingLemmas.{stopped_settles}
 use Rattle.gts_engine.proofs.HearingLemmas.{told_other, not_new_full, never_full, not_told, new_is}
 use Rattle.gts_engine.proofs.AnsweringLemmas.{in_words, stopped_answer}
@@ -8,8 +8,8 @@ use Rattle.gts_engine.proofs.engine.Engine.gather_hear.Goals as goal
 pub returns-in-Some-clause-called : goal.returns-in-Some-clause-called
 returns-in-Some-clause-called g c =
     let old = c.self.inside.parts in
-    let T : Engine g.row.P.Denot → Type 0 = λ e. (mode : SayMode) → IsAnswered (meanings_of g.P.Station.observed g.P.Station.calls mode) (Heard c.args.c c.args.kind c.args.message.now) (Err (Stopped c.in-Some.by)) e (engine_of old) in
-    subst T c.self.view_is (λ mode. stopped_answer g.P.Station.observed g.P.Station.calls mode (Heard c.args.c c.args.kind c.args.message.now) c.in-Some.by (engine_of old) c.in-Some.is)
+    let T : Engine g.row.P.Denot → Type 0 = λ e. (mode : SayMode) → IsAnswered (meanings_of g.P.Station mode) (Heard c.args.c c.args.kind c.args.message.now) (Err (Stopped c.in-Some.by)) e (engine_of old) in
+    subst T c.self.view_is (λ mode. stopped_answer g.P.Station mode (Heard c.args.c c.args.kind c.args.message.now) c.in-Some.by (engine_of old) c.in-Some.is)
 
 pub answer-requires-clause-none : goal.answer-requires-clause-none
 answer-requires-clause-none g c = λ s h.
@@ -18,8 +18,8 @@ answer-requires-clause-none g c = λ s h.
 pub returns-clause-called : goal.returns-clause-called
 returns-clause-called g c =
     let old = c.self.inside.parts in
-    let T : Engine g.row.P.Denot → Type 0 = λ e. (mode : SayMode) → IsAnswered (meanings_of g.P.Station.observed g.P.Station.calls mode) (Heard c.args.c c.args.kind c.args.message.now) c.answer.result e (engine_of c.answer.new.parts) in
-    let told = λ (mode : SayMode). in_words g.P.Station.observed g.P.Station.calls g.P.Station.disk_faults g.P.Station.say_faults mode (Heard c.args.c c.args.kind c.args.message.now) c.answer.result _ c.answer.new.parts c.in_default.is (c.answer.ensures.answered mode) in
+    let T : Engine g.row.P.Denot → Type 0 = λ e. (mode : SayMode) → IsAnswered (meanings_of g.P.Station mode) (Heard c.args.c c.args.kind c.args.message.now) c.answer.result e (engine_of c.answer.new.parts) in
+    let told = λ (mode : SayMode). in_words g.P.Station mode (Heard c.args.c c.args.kind c.args.message.now) c.answer.result _ c.answer.new.parts c.in_default.is (c.answer.ensures.answered mode) in
     subst T c.self.view_is told
 
 pub returns-clause-full : goal.returns-clause-full
@@ -39,9 +39,9 @@ pub returns-in-New-clause-called : goal.returns-in-New-clause-called
 returns-in-New-clause-called g c =
     let old = c.self.inside.parts in
     let is = new_is old.directory old.core c.args.c c.args.message.now c.weigh-judged.result c.in-New.bulletin c.in-New.is c.weigh-judged.ensures in
-    let M : List ℕ → Type 0 = λ m. (mode : SayMode) → IsAnswered (meanings_of g.P.Station.observed g.P.Station.calls mode) (Heard c.args.c c.args.kind m) c.accept_new.result (engine_of old) (engine_of c.accept_new.new.parts) in
-    let T : Engine g.row.P.Denot → Type 0 = λ e. (mode : SayMode) → IsAnswered (meanings_of g.P.Station.observed g.P.Station.calls mode) (Heard c.args.c c.args.kind c.args.message.now) c.accept_new.result e (engine_of c.accept_new.new.parts) in
-    let told = λ (mode : SayMode). in_words g.P.Station.observed g.P.Station.calls g.P.Station.disk_faults g.P.Station.say_faults mode (Heard c.args.c c.args.kind c.in-New.bulletin.message) c.accept_new.result _ c.accept_new.new.parts c.in_default.is (c.accept_new.ensures.answered mode) in
+    let M : List ℕ → Type 0 = λ m. (mode : SayMode) → IsAnswered (meanings_of g.P.Station mode) (Heard c.args.c c.args.kind m) c.accept_new.result (engine_of old) (engine_of c.accept_new.new.parts) in
+    let T : Engine g.row.P.Denot → Type 0 = λ e. (mode : SayMode) → IsAnswered (meanings_of g.P.Station mode) (Heard c.args.c c.args.kind c.args.message.now) c.accept_new.result e (engine_of c.accept_new.new.parts) in
+    let told = λ (mode : SayMode). in_words g.P.Station mode (Heard c.args.c c.args.kind c.in-New.bulletin.message) c.accept_new.result _ c.accept_new.new.parts c.in_default.is (c.accept_new.ensures.answered mode) in
     subst T c.self.view_is (subst M is.0 told)
 
 pub returns-in-New-clause-full : goal.returns-in-New-clause-full
@@ -54,15 +54,15 @@ returns-in-New-clause-full g c =
 pub returns-in-Some-clause-idle : goal.returns-in-Some-clause-idle
 returns-in-Some-clause-idle g c = λ idle.
     let old = c.self.inside.parts in
-    let T : Engine g.row.P.Denot → Type 0 = λ e. HasOnlySettled g.P.Station.observed g.P.Station.calls e (engine_of old) in
+    let T : Engine g.row.P.Denot → Type 0 = λ e. HasOnlySettled g.P.Station e (engine_of old) in
     subst T c.self.view_is (record {
-      settling = λ mode. stopped_settles g.P.Station.observed g.P.Station.calls mode c.in-Some.by (engine_of old) c.in-Some.is;
+      settling = λ mode. stopped_settles g.P.Station mode c.in-Some.by (engine_of old) c.in-Some.is;
       emptied = c.self.invariant.idle c.in-Some.by c.in-Some.is;
     })
 
 pub returns-in-New-clause-idle : goal.returns-in-New-clause-idle
 returns-in-New-clause-idle g c = λ idle.
-    let T : Engine g.row.P.Denot → Type 0 = λ e. HasOnlySettled g.P.Station.observed g.P.Station.calls e (engine_of c.accept_new.new.parts) in
+    let T : Engine g.row.P.Denot → Type 0 = λ e. HasOnlySettled g.P.Station e (engine_of c.accept_new.new.parts) in
     subst T c.self.view_is (c.accept_new.ensures.idle idle)
 
 pub returns-clause-idle : goal.returns-clause-idle
@@ -90,7 +90,7 @@ invariant_of-self-in-New g c = (c.accept_new.ensures.answered Station).sound
 pub returns-in-New-clause-cause : goal.returns-in-New-clause-cause
 returns-in-New-clause-cause g c =
     let new = c.accept_new.new.parts in
-    let T : Engine g.row.P.Denot → Type 0 = λ e. HasCallCause c.accept_new.result (g.P.Station.disk_faults e.station) (g.P.Station.disk_faults new.station) (g.P.Station.say_faults e.station) (g.P.Station.say_faults new.station) in
+    let T : Engine g.row.P.Denot → Type 0 = λ e. HasStationCause g.P.Station c.accept_new.result e.station new.station in
     subst T c.self.view_is (c.accept_new.ensures.answered Station).cause
 
 pub returns-in-New-clause-stops : goal.returns-in-New-clause-stops
@@ -104,7 +104,7 @@ invariant_of-self-2 g c = (c.answer.ensures.answered Station).sound
 pub returns-clause-cause : goal.returns-clause-cause
 returns-clause-cause g c =
     let new = c.answer.new.parts in
-    let T : Engine g.row.P.Denot → Type 0 = λ e. HasCallCause c.answer.result (g.P.Station.disk_faults e.station) (g.P.Station.disk_faults new.station) (g.P.Station.say_faults e.station) (g.P.Station.say_faults new.station) in
+    let T : Engine g.row.P.Denot → Type 0 = λ e. HasStationCause g.P.Station c.answer.result e.station new.station in
     subst T c.self.view_is (c.answer.ensures.answered Station).cause
 
 pub returns-clause-stops : goal.returns-clause-stops

@@ -10,7 +10,7 @@ use Rattle.gts_engine.proofs.engine.Engine.gather_hear_with_room.Goals as goal
 
 pub returns-in_default-clause-called : goal.returns-in_default-clause-called
 returns-in_default-clause-called g c = λ mode.
-    gathers_plain g.P.Station.observed g.P.Station.calls mode c.args.c c.args.kind c.args.message.now c.gather_hear-answer.result c.args.self.now c.gather_hear-answer.new.self
+    gathers_plain g.P.Station mode c.args.c c.args.kind c.args.message.now c.gather_hear-answer.result c.args.self.now c.gather_hear-answer.new.self
     (c.gather_hear-answer.ensures.called mode) c.gather_hear-answer.ensures.had_room c.gather_hear-answer.ensures.stopped (sym c.bytes_wanted.ensures ∙ c.in_default.is)
 
 pub returns-in_err-size-clause-called : goal.returns-in_err-size-clause-called
@@ -19,14 +19,14 @@ returns-in_err-size-clause-called g c = λ mode.
     let wanted = sym c.bytes_wanted.ensures ∙ c.in-Some.is in
     let p = err_from_is_err_and c.from_residual.result c.from_residual.ensures.1 in
     rw (p.1, p.2, c.in_err-size.ensures.memory)
-    (gathers_nothing g.P.Station.observed g.P.Station.calls mode c.args.c c.args.kind c.args.message.now first c.in-Some.bytes wanted c.args.self.now c.gather_hear-answer.new.self
+    (gathers_nothing g.P.Station mode c.args.c c.args.kind c.args.message.now first c.in-Some.bytes wanted c.args.self.now c.gather_hear-answer.new.self
     (c.gather_hear-answer.ensures.called mode) c.gather_hear-answer.ensures.stopped c.gather_hear-answer.ensures.stops (c.gather_hear-answer.ensures.idle (idle_full first c.in-Some.bytes wanted)) c.gather_hear-answer.new.self refl)
 
 pub returns-then-not-has_spare-clause-called : goal.returns-then-not-has_spare-clause-called
 returns-then-not-has_spare-clause-called g c = λ mode.
     let first = c.gather_hear-answer.result in
     let wanted = sym c.bytes_wanted.ensures ∙ c.in-Some.is in
-    gathers_full g.P.Station.observed g.P.Station.calls mode c.args.c c.args.kind c.args.message.now first c.in-Some.bytes wanted c.args.self.now c.gather_hear-answer.new.self
+    gathers_full g.P.Station mode c.args.c c.args.kind c.args.message.now first c.in-Some.bytes wanted c.args.self.now c.gather_hear-answer.new.self
     (c.gather_hear-answer.ensures.called mode) c.gather_hear-answer.ensures.stopped c.gather_hear-answer.ensures.stops (c.gather_hear-answer.ensures.idle (idle_full first c.in-Some.bytes wanted))
     c.has_spare.result (λ s holds. c.has_spare.ensures s holds (c.in_ok-size.ensures.size s holds)) c.if-not-has_spare.true
 
@@ -36,7 +36,7 @@ returns-in_err-compact_settled-clause-called g c = λ mode.
     let wanted = sym c.bytes_wanted.ensures ∙ c.in-Some.is in
     let p = err_from_is_err_and c.from_residual-in_err-compact_settled.result c.from_residual-in_err-compact_settled.ensures.1 in
     rw (p.1, p.2)
-    (gathers_left g.P.Station.observed g.P.Station.calls mode c.args.c c.args.kind c.args.message.now first c.in-Some.bytes wanted c.args.self.now c.gather_hear-answer.new.self
+    (gathers_left g.P.Station mode c.args.c c.args.kind c.args.message.now first c.in-Some.bytes wanted c.args.self.now c.gather_hear-answer.new.self
     (c.gather_hear-answer.ensures.called mode) c.gather_hear-answer.ensures.stopped c.gather_hear-answer.ensures.stops (c.gather_hear-answer.ensures.idle (idle_full first c.in-Some.bytes wanted))
     c.has_spare.result (λ s holds. c.has_spare.ensures s holds (c.in_ok-size.ensures.size s holds)) c.if-not-has_spare.false
     c.in_err-compact_settled.field-0.0 c.compact_settled.new.self c.in_err-compact_settled.ensures.compaction c.in_err-compact_settled.ensures.full c.in_err-compact_settled.ensures.kind c.in_err-compact_settled.ensures.unchanged)
@@ -45,7 +45,7 @@ pub returns-clause-called : goal.returns-clause-called
 returns-clause-called g c = λ mode.
     let first = c.gather_hear-answer.result in
     let wanted = sym c.bytes_wanted.ensures ∙ c.in-Some.is in
-    gathers_made g.P.Station.observed g.P.Station.calls mode c.args.c c.args.kind c.args.message.now first c.in-Some.bytes wanted c.args.self.now c.gather_hear-answer.new.self
+    gathers_made g.P.Station mode c.args.c c.args.kind c.args.message.now first c.in-Some.bytes wanted c.args.self.now c.gather_hear-answer.new.self
     (c.gather_hear-answer.ensures.called mode) c.gather_hear-answer.ensures.stopped c.gather_hear-answer.ensures.stops (c.gather_hear-answer.ensures.idle (idle_full first c.in-Some.bytes wanted))
     c.has_spare.result (λ s holds. c.has_spare.ensures s holds (c.in_ok-size.ensures.size s holds)) c.if-not-has_spare.false
     c.compact_settled.new.self c.gather_hear.result c.gather_hear.new.self c.in_ok-compact_settled.ensures.compaction (c.gather_hear.ensures.called mode)

@@ -6,14 +6,14 @@ use Rattle.gts_engine.proofs.engine.Engine.gather_take.Goals as goal
 pub returns-in-Some-clause-called : goal.returns-in-Some-clause-called
 returns-in-Some-clause-called g c =
     let old = c.self.inside.parts in
-    let T : Engine g.row.P.Denot → Type 0 = λ e. IsAnswered (meanings_of g.P.Station.observed g.P.Station.calls c.args.mode) (Taken c.args.c) (Err (Stopped c.in-Some.by)) e (engine_of old) in
-    subst T c.self.view_is (stopped_answer g.P.Station.observed g.P.Station.calls c.args.mode (Taken c.args.c) c.in-Some.by (engine_of old) c.in-Some.is)
+    let T : Engine g.row.P.Denot → Type 0 = λ e. IsAnswered (meanings_of g.P.Station c.args.mode) (Taken c.args.c) (Err (Stopped c.in-Some.by)) e (engine_of old) in
+    subst T c.self.view_is (stopped_answer g.P.Station c.args.mode (Taken c.args.c) c.in-Some.by (engine_of old) c.in-Some.is)
 
 pub returns-clause-called : goal.returns-clause-called
 returns-clause-called g c =
     let old = c.self.inside.parts in
-    let T : Engine g.row.P.Denot → Type 0 = λ e. IsAnswered (meanings_of g.P.Station.observed g.P.Station.calls c.args.mode) (Taken c.args.c) c.take.result e (engine_of c.take.new.parts) in
-    subst T c.self.view_is (in_words g.P.Station.observed g.P.Station.calls g.P.Station.disk_faults g.P.Station.say_faults c.args.mode (Taken c.args.c) c.take.result old c.take.new.parts c.in_default.is (c.take.ensures.answered))
+    let T : Engine g.row.P.Denot → Type 0 = λ e. IsAnswered (meanings_of g.P.Station c.args.mode) (Taken c.args.c) c.take.result e (engine_of c.take.new.parts) in
+    subst T c.self.view_is (in_words g.P.Station c.args.mode (Taken c.args.c) c.take.result old c.take.new.parts c.in_default.is (c.take.ensures.answered))
 
 pub returns-clause-frame : goal.returns-clause-frame
 returns-clause-frame g c =

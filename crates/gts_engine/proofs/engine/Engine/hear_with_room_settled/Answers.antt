@@ -8,7 +8,7 @@ use Rattle.gts_engine.proofs.engine.Engine.hear_with_room_settled.Goals as goal
 
 pub returns-in_default-clause-called : goal.returns-in_default-clause-called
 returns-in_default-clause-called g c = λ mode.
-    plain g.P.Station.observed g.P.Station.calls mode c.args.c c.args.kind c.args.message.now c.hear-answer.result c.args.self.now c.hear-answer.new.self
+    plain g.P.Station mode c.args.c c.args.kind c.args.message.now c.hear-answer.result c.args.self.now c.hear-answer.new.self
     (c.hear-answer.ensures.called mode) c.hear-answer.ensures.full c.hear-answer.ensures.stopped (sym c.bytes_wanted.ensures ∙ c.in_default.is)
 
 pub returns-in_err-size-clause-called : goal.returns-in_err-size-clause-called
@@ -18,7 +18,7 @@ returns-in_err-size-clause-called g c = λ mode.
     let wanted = sym c.bytes_wanted.ensures ∙ c.in-Some.is in
     let p = err_from_is_err_and c.from_residual.result c.from_residual.ensures.1 in
     rw (p.1, p.2, c.in_err-size.ensures.memory)
-    (without_memory g.P.Station.observed g.P.Station.calls mode c.args.c c.args.kind c.args.message.now first bytes wanted c.args.self.now c.hear-answer.new.self
+    (without_memory g.P.Station mode c.args.c c.args.kind c.args.message.now first bytes wanted c.args.self.now c.hear-answer.new.self
     (c.hear-answer.ensures.called mode) c.hear-answer.ensures.stopped (c.hear-answer.ensures.unchanged (idle_full first bytes wanted) c.requires.settled) c.hear-answer.new.self refl)
 
 pub returns-then-not-has_spare-clause-called : goal.returns-then-not-has_spare-clause-called
@@ -26,7 +26,7 @@ returns-then-not-has_spare-clause-called g c = λ mode.
     let bytes = c.in-Some.bytes in
     let first = c.hear-answer.result in
     let wanted = sym c.bytes_wanted.ensures ∙ c.in-Some.is in
-    full_either g.P.Station.observed g.P.Station.calls mode c.args.c c.args.kind c.args.message.now first bytes wanted c.args.self.now c.hear-answer.new.self
+    full_either g.P.Station mode c.args.c c.args.kind c.args.message.now first bytes wanted c.args.self.now c.hear-answer.new.self
     (c.hear-answer.ensures.called mode) c.hear-answer.ensures.stopped (c.hear-answer.ensures.unchanged (idle_full first bytes wanted) c.requires.settled)
     c.has_spare.result (λ s holds. c.has_spare.ensures s holds (c.in_ok-size.ensures.size s holds)) c.if-not-has_spare.true
 
@@ -37,7 +37,7 @@ returns-in_err-compact_settled-clause-called g c = λ mode.
     let wanted = sym c.bytes_wanted.ensures ∙ c.in-Some.is in
     let p = err_from_is_err_and c.from_residual-in_err-compact_settled.result c.from_residual-in_err-compact_settled.ensures.1 in
     rw (p.1, p.2)
-    (left_off g.P.Station.observed g.P.Station.calls mode c.args.c c.args.kind c.args.message.now first bytes wanted c.args.self.now c.hear-answer.new.self
+    (left_off g.P.Station mode c.args.c c.args.kind c.args.message.now first bytes wanted c.args.self.now c.hear-answer.new.self
     (c.hear-answer.ensures.called mode) c.hear-answer.ensures.stopped (c.hear-answer.ensures.unchanged (idle_full first bytes wanted) c.requires.settled)
     c.has_spare.result (λ s holds. c.has_spare.ensures s holds (c.in_ok-size.ensures.size s holds)) c.if-not-has_spare.false
     c.in_err-compact_settled.field-0.0 c.compact_settled.new.self c.in_err-compact_settled.ensures.compaction c.in_err-compact_settled.ensures.full c.in_err-compact_settled.ensures.kind c.in_err-compact_settled.ensures.unchanged)
@@ -47,7 +47,7 @@ returns-clause-called g c = λ mode.
     let bytes = c.in-Some.bytes in
     let first = c.hear-answer.result in
     let wanted = sym c.bytes_wanted.ensures ∙ c.in-Some.is in
-    made g.P.Station.observed g.P.Station.calls mode c.args.c c.args.kind c.args.message.now first bytes wanted c.args.self.now c.hear-answer.new.self
+    made g.P.Station mode c.args.c c.args.kind c.args.message.now first bytes wanted c.args.self.now c.hear-answer.new.self
     (c.hear-answer.ensures.called mode) c.hear-answer.ensures.stopped (c.hear-answer.ensures.unchanged (idle_full first bytes wanted) c.requires.settled)
     c.has_spare.result (λ s holds. c.has_spare.ensures s holds (c.in_ok-size.ensures.size s holds)) c.if-not-has_spare.false
     c.compact_settled.new.self c.hear.result c.hear.new.self c.in_ok-compact_settled.ensures.compaction (c.hear.ensures.called mode)

@@ -7,9 +7,9 @@ use Rattle.gts_engine.proofs.engine.Engine.settle.Goals as goal
 pub returns-in-Some-clause-settles : goal.returns-in-Some-clause-settles
 returns-in-Some-clause-settles g c =
     let old = c.self.inside.parts in
-    let S : Engine g.row.P.Denot → Type 0 = λ e. SettlesEngine g.P.Station.observed g.P.Station.calls (Ok tt) e e in
+    let S : Engine g.row.P.Denot → Type 0 = λ e. SettlesEngine g.P.Station (Ok tt) e e in
     subst S c.self.view_is (record {
-      settling = λ mode. stopped_settles g.P.Station.observed g.P.Station.calls mode c.in-Some.field-0 (engine_of old) c.in-Some.is;
+      settling = λ mode. stopped_settles g.P.Station mode c.in-Some.field-0 (engine_of old) c.in-Some.is;
       emptied = c.self.invariant.idle c.in-Some.field-0 c.in-Some.is;
       nothing = λ none. (refl, refl);
     })
@@ -19,9 +19,9 @@ returns-clause-settles g c =
     let old = c.self.inside.parts in
     let new = c.settle.new.parts in
     let s = c.settle.ensures.settles in
-    let S : Engine g.row.P.Denot → Type 0 = λ e. SettlesEngine g.P.Station.observed g.P.Station.calls c.settle.result e (engine_of new) in
+    let S : Engine g.row.P.Denot → Type 0 = λ e. SettlesEngine g.P.Station c.settle.result e (engine_of new) in
     subst S c.self.view_is (record {
-      settling = λ mode. parts_settle g.P.Station.observed g.P.Station.calls g.P.Station.disk_faults g.P.Station.say_faults mode c.settle.result old new s;
+      settling = λ mode. parts_settle g.P.Station mode c.settle.result old new s;
       emptied = s.emptied;
       nothing = λ none. let n = s.nothing none in (n.0, ap engine_of n.1);
     })

@@ -8,15 +8,15 @@ use Rattle.gts_engine.proofs.engine.Engine.take.Goals as goal
 pub returns-in_err-outcome-clause-called : goal.returns-in_err-outcome-clause-called
 returns-in_err-outcome-clause-called g c =
     let p = err_from_is_err_and c.from_residual.result c.from_residual.ensures.1 in
-    rw (p.1, p.2) (fails_first g.P.Station.observed g.P.Station.calls c.args.mode (Taken c.args.c) c.args.self.now c.gather_take.new.self c.gather_take.result (c.gather_take.ensures.called) c.in_err-outcome.field-0.0 c.in_err-outcome.was)
+    rw (p.1, p.2) (fails_first g.P.Station c.args.mode (Taken c.args.c) c.args.self.now c.gather_take.new.self c.gather_take.result (c.gather_take.ensures.called) c.in_err-outcome.field-0.0 c.in_err-outcome.was)
 
 pub returns-in_err-settle-clause-called : goal.returns-in_err-settle-clause-called
 returns-in_err-settle-clause-called g c =
     let p = err_from_is_err_and c.from_residual-in_err-settle.result c.from_residual-in_err-settle.ensures.1 in
-    rw (p.1, p.2) (fails_behind g.P.Station.observed g.P.Station.calls c.args.mode (Taken c.args.c) c.args.self.now c.gather_take.new.self c.gather_take.result (c.gather_take.ensures.called) c.in_ok-outcome.outcome c.in_ok-outcome.was c.settle.new.self c.settle.result (c.settle.ensures.settles.settling c.args.mode) c.in_err-settle.field-0.0 c.in_err-settle.was c.settle.ensures.kind)
+    rw (p.1, p.2) (fails_behind g.P.Station c.args.mode (Taken c.args.c) c.args.self.now c.gather_take.new.self c.gather_take.result (c.gather_take.ensures.called) c.in_ok-outcome.outcome c.in_ok-outcome.was c.settle.new.self c.settle.result (c.settle.ensures.settles.settling c.args.mode) c.in_err-settle.field-0.0 c.in_err-settle.was c.settle.ensures.kind)
 
 pub returns-clause-called : goal.returns-clause-called
-returns-clause-called g c = done_behind g.P.Station.observed g.P.Station.calls c.args.mode (Taken c.args.c) c.args.self.now c.gather_take.new.self c.gather_take.result (c.gather_take.ensures.called) c.in_ok-outcome.outcome c.in_ok-outcome.was c.settle.new.self c.settle.result (c.settle.ensures.settles.settling c.args.mode) c.in_ok-settle.was
+returns-clause-called g c = done_behind g.P.Station c.args.mode (Taken c.args.c) c.args.self.now c.gather_take.new.self c.gather_take.result (c.gather_take.ensures.called) c.in_ok-outcome.outcome c.in_ok-outcome.was c.settle.new.self c.settle.result (c.settle.ensures.settles.settling c.args.mode) c.in_ok-settle.was
 
 pub returns-in_err-settle-clause-stops : goal.returns-in_err-settle-clause-stops
 returns-in_err-settle-clause-stops g c =

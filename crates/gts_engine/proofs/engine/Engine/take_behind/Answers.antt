@@ -8,11 +8,11 @@ pub returns-clause-called : goal.returns-clause-called
 returns-clause-called g c =
     let old = c.self.inside.parts in
     let new = c.take_behind.new.parts in
-    let T : Engine g.row.P.Denot → Type 0 = λ e. IfSome c.take_behind.result (λ o. TakesBehind g.P.Station.observed g.P.Station.calls c.args.c o e (engine_of new)) in
+    let T : Engine g.row.P.Denot → Type 0 = λ e. IfSome c.take_behind.result (λ o. TakesBehind g.P.Station c.args.c o e (engine_of new)) in
     subst T c.self.view_is
-    (both_some c.take_behind.result (λ o. AnswersIn g.P.Station.observed g.P.Station.calls g.P.Station.disk_faults g.P.Station.say_faults Caller (Taken c.args.c) (Ok o) old new)
-    (λ o. ((engine_of old).gathered ≡ true) × ((engine_of new).held ≡ (engine_of old).held ++ [] ∷ [])) (λ o. TakesBehind g.P.Station.observed g.P.Station.calls c.args.c o (engine_of old) (engine_of new))
-    (λ o a h. takes_behind g.P.Station.observed g.P.Station.calls g.P.Station.disk_faults g.P.Station.say_faults c.args.c o old new c.in_default.is h.0 h.1 a)
+    (both_some c.take_behind.result (λ o. AnswersIn g.P.Station Caller (Taken c.args.c) (Ok o) old new)
+    (λ o. ((engine_of old).gathered ≡ true) × ((engine_of new).held ≡ (engine_of old).held ++ [] ∷ [])) (λ o. TakesBehind g.P.Station c.args.c o (engine_of old) (engine_of new))
+    (λ o a h. takes_behind g.P.Station c.args.c o old new c.in_default.is h.0 h.1 a)
     c.take_behind.ensures.answered
     (both_some c.take_behind.result (λ o. (engine_of old).gathered ≡ true) (λ o. (engine_of new).held ≡ (engine_of old).held ++ [] ∷ []) _ (λ o a h. (a, h)) c.take_behind.ensures.gathered c.take_behind.ensures.held))
 
@@ -35,4 +35,4 @@ returns-clause-sound g c =
     let disk = g.P.Station.disk_faults in
     let say = g.P.Station.say_faults in
     let T : Engine g.row.P.Denot → Type 0 = λ e. (disk new.station ≡ disk e.station) × (say new.station ≡ say e.station) in
-    subst T c.self.view_is (still_counts g.P.Station.observed g.P.Station.calls disk say Caller (Taken c.args.c) c.take_behind.result old new c.take_behind.ensures.none c.take_behind.ensures.answered)
+    subst T c.self.view_is (still_counts g.P.Station Caller (Taken c.args.c) c.take_behind.result old new c.take_behind.ensures.none c.take_behind.ensures.answered)

@@ -16,7 +16,7 @@ returns c =
     let bytes : List ℕ = take size c.self.inside.bytes.items in
     let saying : Saying = record { channel = c.args.channel; size = length new } in
     let are : AreSayings each bytes = c.self.invariant.4 in
-    let room : HasRoom (the_view c.self.inside) (length new) = subst (λ (s : Sayings). HasRoom s (length new)) (sym c.self.view_is) c.requires.room in
+    let room : HasRoom (the_view c.self.inside) (length new) = subst (λ (s : Sayings). HasRoom s (length new)) (sym c.self.view_is) c.requires in
     let long : length each ≡ count = length-take-le count c.self.inside.sayings.items (omega (arith, c.self.invariant.0, c.self.invariant.2, c.self.inside.sayings.ok.0)) in
     let size_is : length bytes ≡ size = length-take-le size c.self.inside.bytes.items (omega (arith, c.self.invariant.1, c.self.invariant.3, c.self.inside.bytes.ok.0)) in
     let copied : List ℕ → List ℕ = λ l. take size d ++ (l ++ drop (size + length new - size) (drop size d)) in
@@ -27,5 +27,5 @@ returns c =
     ∙ ap (λ (l : List ℕ). pieces_of (take (count + 1) (set c.self.inside.sayings.items count saying)) l)
     (ap (λ (l : List ℕ). take (size + length new) (copied l)) c.copy_from_slice.ensures.after ∙ put.1 ∙ ap (λ (l : List ℕ). take size l ++ new) c.deref_mut.ensures.value)
     ∙ ap (λ (l : List Saying). pieces_of l (bytes ++ new)) (take_more_set c.self.inside.sayings.items count saying (omega (arith, room.0, long, c.self.invariant.2, c.self.inside.sayings.ok.0)))
-    ∙ pieces_hold each bytes saying new are.sizes refl
+    ∙ pieces_hold each bytes saying new are refl
     ∙ ap (λ (s : Sayings). held_pieces s ++ on c.args.channel new ∷ []) c.self.view_is

@@ -18,7 +18,7 @@ returns-clause-piece c =
     let count : length each ≡ c.self.inside.count = length-take-le c.self.inside.count all (omega (arith, c.self.invariant.0, c.self.invariant.2, c.self.inside.sayings.ok.0)) in
     let size : length bytes ≡ c.self.inside.size = length-take-le c.self.inside.size c.self.inside.bytes.items (omega (arith, c.self.invariant.1, c.self.invariant.3, c.self.inside.bytes.ok.0)) in
     let is : slice_get each i ≡ Some s = slice_get-get_or each i s there ∙ ap (λ (x : Saying). Some x) (get_or-take c.self.inside.count all i s (omega (arith, there, count)) ∙ sym c.index-saying.ensures) in
-    let fits : c.args.at + s.size ≤ c.self.inside.size = omega (arith, place, sizes_next each i s is, sizes_within each (suc i), are.sizes, size) in
+    let fits : c.args.at + s.size ≤ c.self.inside.size = omega (arith, place, sizes_next each i s is, sizes_within each (suc i), are, size) in
     let front : take s.size (drop c.args.at bytes) ≡ take (c.args.at + s.size - c.args.at) (drop c.args.at c.deref.result.now) =
     within_front c.self.inside.bytes.items c.self.inside.size c.args.at s.size fits
     ∙ ap (λ (l : List ℕ). take s.size (drop c.args.at l)) (sym c.deref.ensures.value) ∙ ap (λ (n : ℕ). take n (drop c.args.at c.deref.result.now)) (omega arith) in

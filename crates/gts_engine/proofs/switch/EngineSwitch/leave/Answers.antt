@@ -2,4 +2,4 @@ use Rattle.gts_engine.proofs.SwitchLemmas.{told_leave}
 use Rattle.gts_engine.proofs.switch.EngineSwitch.leave.Goals as goal
 
 pub returns : goal.returns
-returns g c = record { leaves = told_leave g.P.Station.observed g.P.Station.calls c.args.self.now }
+returns g c = record { leaves = told_leave g.P.Station c.args.self.now }

@@ -4,4 +4,4 @@ use Rattle.gts_engine.proofs.switch.EngineSwitch.settle.Goals as goal
 
 pub returns-clause-settling : goal.returns-clause-settling
 returns-clause-settling g c =
-    told_settling g.P.Station.observed g.P.Station.calls c.settle.result c.args.self.now c.settle.new.self (c.settle.ensures.settles.settling Station)
+    told_settling g.P.Station c.settle.result c.args.self.now c.settle.new.self (c.settle.ensures.settles.settling Station)

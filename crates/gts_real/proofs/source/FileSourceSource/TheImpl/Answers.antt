@@ -7,5 +7,4 @@ read-tells g c = record {
   same = λ told. absurd told;
   count = search rules;
   cause = search rules;
-  sound = search rules;
 }

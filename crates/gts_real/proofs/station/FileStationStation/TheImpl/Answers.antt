@@ -6,7 +6,6 @@ size-tells g c = record {
   size = λ told. absurd told;
   told = λ told. absurd told;
   cause = search rules;
-  sound = search rules;
   say = search rules;
 }
 
@@ -17,7 +16,6 @@ read-tells g c = record {
   told = λ told. absurd told;
   within = search rules;
   cause = search rules;
-  sound = search rules;
   say = search rules;
 }
 
@@ -25,7 +23,6 @@ pub write_at-tells : goal.write_at-tells
 write_at-tells g c = record {
   told = λ told. absurd told;
   cause = search rules;
-  sound = search rules;
   say = search rules;
 }
 
@@ -33,7 +30,6 @@ pub cut-tells : goal.cut-tells
 cut-tells g c = record {
   told = λ told. absurd told;
   cause = search rules;
-  sound = search rules;
   say = search rules;
 }
 
@@ -41,7 +37,6 @@ pub sync-tells : goal.sync-tells
 sync-tells g c = record {
   told = λ told. absurd told;
   cause = search rules;
-  sound = search rules;
   say = search rules;
 }
 
@@ -50,7 +45,6 @@ say-tells g c = record {
   told = λ told. absurd told;
   kept = λ told. absurd told;
   cause = search rules;
-  sound = search rules;
   disk = search rules;
 }
 
@@ -59,6 +53,5 @@ keep-tells g c = record {
   told = λ told. absurd told;
   kept = λ told. absurd told;
   cause = search rules;
-  sound = search rules;
   disk = search rules;
 }

@@ -5,5 +5,5 @@ use Rattle.gts_circuits.proofs.hall.housed.HousedListens.settle_all.Goals as goa
 
 pub returns-clause-settling : goal.returns-clause-settling
 returns-clause-settling g c =
-    settles (λ (h : _). h.engine) (λ (h : _). h.makes_room) g.P.Station.observed g.P.Station.calls g.P.Station.disk_faults g.P.Station.say_faults
+    settles (λ (h : _). h.engine) (λ (h : _). h.makes_room) g.P.Station
     c.settle.result c.args.self.now (record c.args.self.now { engine = c.settle.new.self }) refl c.settle.ensures.cause (c.settle.ensures.settles.settling Caller)
