@@ -9,10 +9,8 @@ use gts_frame::Decoder;
 use gts_traits::Source;
 use std::alloc::Global;
 
-/// How many bytes of a feed are taken at once.
-const PIECE: usize = 4_096;
-
-/// A feed: its bytes come on a circuit, piece by piece, until all came that its head announced.
+/// A feed: its bytes come on a circuit, piece by piece, until all came that its head announced. A piece is as long as
+/// `piece` at most.
 pub(crate) fn feed<W: Switch, S: Source>(
     alloc: Global,
     switch: &mut W,
@@ -20,19 +18,18 @@ pub(crate) fn feed<W: Switch, S: Source>(
     decoder: &mut Decoder,
     steps: &mut Steps,
     capture: &mut S,
+    piece: &mut [u8],
 ) -> Result<(), StepFault>
     requires circuit { c < length (W.meanings.directory switch.old).circuits }
+    requires piece { 0 < length piece.old }
     ensures feeds { Feeds W.meanings S.observed c result steps.old steps.new (S.left capture.old)
         (S.left capture.new) decoder.old decoder.new switch.old switch.new }
     ensures directory { W.meanings.directory switch.new ≡ W.meanings.directory switch.old }
     ensures cause { CountsStep W.Switch S.Source result switch.old switch.new
         capture.old capture.new }
 {
-    let mut piece = [0; PIECE];
     loop {
-        let count = steps
-            .bytes(capture, &mut piece)
-            .map_err(StepFault::Capture)?;
+        let count = steps.bytes(capture, piece).map_err(StepFault::Capture)?;
         if count == 0 {
             return Ok(());
         }

@@ -1,4 +1,4 @@
-ghost use Rattle.std.specs.Prelude.{◌≡◌, ◌≤◌, length};
+ghost use Rattle.std.specs.Prelude.{◌≡◌, ◌<◌, ◌≤◌, length};
 ghost use Rattle.gts_replay.specs.Cited.{CountsRun, CountsSettling, CountsStep, Decode, DoesStep, EndsRun, EndsUnsettled, IsHeadIn, SettlesBehind, at_start, bytes_announced, no_bytes};
 ghost use Rattle.gts_replay.specs.Heads.{head_of};
 
@@ -14,10 +14,13 @@ use gts_frame::{Decoder, FrameBuf};
 use gts_traits::Source;
 use std::alloc::Global;
 
+/// How many bytes of a feed are taken at once.
+const PIECE: usize = 4_096;
+
 /// Runs a capture of this kind through a switch, up to its end or the first fault: bytes that come are heard frame by frame,
 /// each circuit over a connection of its own; takes, drains, restarts and compactions are the switch's. What feeds, takes and
-/// drains do may be gathered; it is settled before the journal is opened again or compacted, and at the end. Decoders
-/// and the room for a frame are made before the first step.
+/// drains do may be gathered; it is settled before the journal is opened again or compacted, and at the end. Decoders, the
+/// room for a frame and that for a piece of a feed are made before the first step.
 pub fn replay<W: Switch, S: Source>(
     alloc: Global,
     switch: &mut W,
@@ -37,8 +40,17 @@ pub fn replay<W: Switch, S: Source>(
     let Ok(mut out) = FrameBuf::new(alloc) else {
         return ReplayEnd::NoMemory;
     };
+    let mut piece = [0; PIECE];
     let mut steps = Steps::new(circuits, kind);
-    let end = run(alloc, switch, capture, &mut steps, &mut decoders, &mut out);
+    let end = run(
+        alloc,
+        switch,
+        capture,
+        &mut steps,
+        &mut decoders,
+        &mut out,
+        &mut piece,
+    );
     settle_behind(switch, end)
 }
 
@@ -67,11 +79,13 @@ fn run<W: Switch, S: Source>(
     steps: &mut Steps,
     decoders: &mut [Decoder],
     out: &mut FrameBuf,
+    piece: &mut [u8],
 ) -> ReplayEnd
     requires begins { steps.old
         ≡ at_start (length (W.meanings.directory switch.old).circuits) steps.old.kind }
     requires few { length (W.meanings.directory switch.old).circuits ≤ 100 }
     requires decode { Decode decoders.old (no_bytes (W.meanings.directory switch.old)) }
+    requires piece { 0 < length piece.old }
     ensures ends { EndsUnsettled W.Switch S.Source steps.old.kind result switch.old switch.new
         capture.old capture.new }
     ensures directory { W.meanings.directory switch.new ≡ W.meanings.directory switch.old }
@@ -84,7 +98,7 @@ fn run<W: Switch, S: Source>(
             Ok(head) => head,
             Err(fault) => return end_after(StepFault::Capture(fault)),
         };
-        if let Err(fault) = do_step(alloc, switch, capture, steps, decoders, out, head) {
+        if let Err(fault) = do_step(alloc, switch, capture, steps, decoders, out, piece, head) {
             return end_after(fault);
         }
     }
@@ -100,6 +114,7 @@ fn do_step<W: Switch, S: Source>(
     steps: &mut Steps,
     decoders: &mut [Decoder],
     out: &mut FrameBuf,
+    piece: &mut [u8],
     head: Head,
 ) -> Result<(), StepFault>
     requires valid { let d = W.meanings.directory switch.old in
@@ -107,6 +122,7 @@ fn do_step<W: Switch, S: Source>(
     requires some { head ≡ Head.End → ⊥ }
     requires feed { steps.old.feed ≡ bytes_announced (head_of head) }
     requires decoders { length decoders.old ≡ length (W.meanings.directory switch.old).circuits }
+    requires piece { 0 < length piece.old }
     ensures does { DoesStep W.meanings W.observed S.observed
         (head_of head) result steps.old steps.new
         (S.left capture.old) (S.left capture.new) decoders.old decoders.new switch.old switch.new }
@@ -117,7 +133,7 @@ fn do_step<W: Switch, S: Source>(
     match head {
         Head::Feed { c, .. } => {
             let decoder = &mut decoders[c as usize];
-            return feed(alloc, switch, c, decoder, steps, capture);
+            return feed(alloc, switch, c, decoder, steps, capture, piece);
         }
         Head::Take { c } => {
             if let Err(fault) = switch.take(c, out) {
