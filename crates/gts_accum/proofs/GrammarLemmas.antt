@@ -5,6 +5,7 @@ use Rattle.std.proofs.Math.Seq.{take-append-add}
 use Rattle.gts_accum.specs.Cited.{Begins, ENTRY_HEAD, Entry, Format, IsEntry, IsFile, IsHead, IsHeadFront, IsSize, entry_text, format_in, head_text, size_in}
 use Rattle.gts_accum.proofs.WrittenLemmas.{given-head, length-head, size-head, format-head}
 use Rattle.gts_frame.proofs.LawLemmas.{same_parts}
+use Rattle.std.proofs.lemmas.Grind.{common_steps}
 
 -- ---- heads and entries in front
 
@@ -26,6 +27,9 @@ same_head f g s t x y one other e =
 pub length-entry : (entry : Entry) → length (entry_text entry) ≡ ENTRY_HEAD + length entry.bytes
 length-entry entry = omega (arith, length-append (head_text entry.format (length entry.bytes)) entry.bytes, length-head entry.format (length entry.bytes))
 
+pub regroup : (k b l e u : List ℕ) → ((k ++ b) ++ l) ++ e ++ u ≡ k ++ (b ++ (l ++ e ++ u))
+regroup k b l e u = simp append_assoc
+
 -- a file that an entry begins
 pub record Uncons (most : ℕ) (e : Entry) (x : List ℕ) (entries : List Entry) : Type 0 where
   pub rest : List Entry
@@ -36,65 +40,13 @@ same_entry : (e f : Entry) → e.format ≡ f.format → e.bytes ≡ f.bytes →
 same_entry e f a b = ap (λ (x : Format). record { format = x; bytes = e.bytes }) a ∙ ap (λ (xs : List ℕ). record { format = f.format; bytes = xs }) b
 
 pub uncons : (most : ℕ) (e : Entry) (x : List ℕ) (entries : List Entry) → IsEntry e → IsFile most (entry_text e ++ x) entries → Uncons most e x entries
-uncons most e x [] is file = elim file.ends [
-  | inl none ↦ absurd (omega (
-    arith,
-    ap length file.text,
-    length-append file.end file.unread,
-    ap length none.0,
-    ap length none.1,
-    length-append (entry_text e) x,
-    length-entry e,
-  ))
-  | inr head ↦
-      let h : List ℕ = head_text e.format (length e.bytes) in
-      let text : h ++ (e.bytes ++ x) ≡ head_text head.0 0 ++ file.unread =
-      sym (append_assoc h e.bytes x) ∙ file.text ∙ ap (λ (l : List ℕ). l ++ file.unread) head.1 in
-      let same = same_head e.format head.0 (length e.bytes) 0 (e.bytes ++ x) file.unread (inr is) (inl refl) text in
-      absurd (omega (arith, same.size, is.least))
-]
-uncons most e x (f ∷ rest) is file =
-    let h : List ℕ = head_text e.format (length e.bytes) in
-    let k : List ℕ = head_text f.format (length f.bytes) in
-    let later : List ℕ = flat_map entry_text rest in
-    let behind : List ℕ = later ++ file.end ++ file.unread in
-    let text : h ++ (e.bytes ++ x) ≡ k ++ (f.bytes ++ behind) = sym (append_assoc h e.bytes x) ∙ file.text ∙ regroup k f.bytes later file.end file.unread in
-    let same = same_head e.format f.format (length e.bytes) (length f.bytes) (e.bytes ++ x) (f.bytes ++ behind) (inr is) (inr file.each.0) text in
-    let parts = same_parts e.bytes f.bytes x behind same.size same.rest in
-    let here : f ≡ e = sym (same_entry e f same.format parts.0) in
-    let long : length (entry_text f) ≡ length (entry_text e) = ap (λ (n : Entry). length (entry_text n)) here in
-    record {
-      rest = rest;
-      are = ap (λ (n : Entry). n ∷ rest) here;
-      file = record {
-        each = file.each.1;
-        end = file.end;
-        unread = file.unread;
-        ends = file.ends;
-        text = parts.1;
-        short = omega (arith, file.short, long, ap length (append_assoc (entry_text f) later file.end), length-append (entry_text f) (later ++ file.end));
-      };
-    }
-  where
-    regroup : (k b l e u : List ℕ) → ((k ++ b) ++ l) ++ e ++ u ≡ k ++ (b ++ (l ++ e ++ u))
-    regroup k b l e u = simp append_assoc
+uncons most e x [] is file = grind (arith, common_steps, length-append, length-entry, same_head)
+uncons most e x (f ∷ rest) is file = grind (arith, common_steps, regroup, same_head, same_parts, same_entry, length-append)
 
 -- an entry in front of a file
 pub cons : (most : ℕ) (e : Entry) (x : List ℕ) (rest : List Entry) → IsEntry e → length (entry_text e) ≤ most
     → IsFile (most - length (entry_text e)) x rest → IsFile most (entry_text e ++ x) (e ∷ rest)
-cons most e x rest is room file =
-    let later : List ℕ = flat_map entry_text rest in
-    record {
-      each = (is, file.each);
-      end = file.end;
-      unread = file.unread;
-      ends = file.ends;
-      text = ap (λ (l : List ℕ). entry_text e ++ l) file.text ∙ regroup (entry_text e) later file.end file.unread;
-      short = omega (arith, file.short, room, ap length (append_assoc (entry_text e) later file.end), length-append (entry_text e) (later ++ file.end));
-    }
-  where
-    regroup : (h l e u : List ℕ) → h ++ (l ++ e ++ u) ≡ (h ++ l) ++ e ++ u
-    regroup h l e u = simp append_assoc
+cons most e x rest is room file = grind (arith, common_steps, regroup, length-append)
 
 pub begins-cons : (e : Entry) (x : List ℕ) → IsEntry e → Begins x → Begins (entry_text e ++ x)
 begins-cons e x is (more, entries, most, file) =
@@ -188,6 +140,3 @@ begins-front bytes some few (more, f ∷ rest, most, file) =
     let ten : length h ≡ ENTRY_HEAD = length-head f.format (length f.bytes) in
     let sum : ENTRY_HEAD ≡ length bytes + n = omega (arith, few) in
     (f.format, length f.bytes, take n more, inr file.each.0, sym (take_at h behind ENTRY_HEAD ten) ∙ ap (take ENTRY_HEAD) (sym text) ∙ ap (λ (k : ℕ). take k (bytes ++ more)) sum ∙ take-append-add bytes more n)
-  where
-    regroup : (k b l e u : List ℕ) → ((k ++ b) ++ l) ++ e ++ u ≡ k ++ (b ++ (l ++ e ++ u))
-    regroup k b l e u = simp append_assoc

@@ -1,12 +1,14 @@
 -- The bad place that is computed of a stream is the one of the grammar.
-use Rattle.std.proofs.Common.{◌≡◌, ℕ, zero, suc, ◌+◌, ◌-◌, ◌<◌, ◌≤◌, min, Bool, true, false, List, [], ◌∷◌, ◌++◌, length, take, drop, Option, Some, None, inl, inr, refl, sym, ap, subst, ◌∙◌, append_assoc, arith, IsSome, is_none, flat_map, option_map}
+use Rattle.std.proofs.Common.{◌≡◌, ℕ, ◌+◌, ◌-◌, ◌<◌, ◌≤◌, min, Bool, true, false, List, [], ◌∷◌, ◌++◌, length, take, drop, Option, Some, None, inl, inr, refl, sym, ap, subst, ◌∙◌, append_assoc, arith, is_none, flat_map, option_map}
 use Rattle.gts_accum.specs.Cited.{AllByRecursion, FrameField, IsBadStream, IsPiece, IsStream, IsStreamFront, IsStreamWithin, LONGEST_STREAM, Piece, bad_in_stream, find, held_in, loss_in, open_part, piece_text, range_with_len, signs_in, stream_seen}
 use Rattle.std.proofs.lemmas.Bool.{cases_lt, lt-ltb, le-ltb}
 use Rattle.std.proofs.lemmas.List.{append-nil, length-take, take_all, take-take, take-append-drop}
 use Rattle.gts_frame.proofs.LawLemmas.{shows-computed, shows-one, open-front, front-open}
 use Rattle.gts_frame.proofs.ShowsLemmas.{reads-pieces}
 use Rattle.gts_accum.proofs.StreamLemmas.{loss-found, bad_by}
-use Rattle.gts_accum.proofs.PlaceLemmas.{found_here, found_first}
+use Rattle.gts_accum.proofs.FileLemmas.{first_is}
+use Rattle.gts_accum.proofs.PlaceLemmas.{one-number}
+use Rattle.std.proofs.lemmas.Grind.{common_steps}
 
 -- ---- streams and their fronts, by what they leave open
 
@@ -26,18 +28,10 @@ open-stream bytes is =
     go rest (Some field) pieces each text e = absurd (cc)
 
 kept : (bytes : List ℕ) → is_none (held_in bytes) ≡ false → IsStreamFront bytes
-kept bytes some = open-front bytes (go (held_in bytes) some)
-  where
-    go : (held : Option (List ℕ)) → is_none held ≡ false → IsSome held
-    go None e = absurd (cc)
-    go (Some held) e = refl
+kept bytes some = grind (arith, common_steps, open-front)
 
 lost : (bytes : List ℕ) → is_none (held_in bytes) ≡ true → IsStreamFront bytes → ⊥
-lost bytes none front = go (held_in bytes) none (front-open bytes front)
-  where
-    go : (held : Option (List ℕ)) → is_none held ≡ true → IsSome held → ⊥
-    go None e some = absurd (cc)
-    go (Some held) e some = absurd (cc)
+lost bytes none front = grind (arith, common_steps, front-open)
 
 front-of : (n : ℕ) (bytes : List ℕ) → IsStreamFront bytes → IsStreamFront (take n bytes)
 front-of n bytes (stream, more, is, text) =
@@ -46,15 +40,6 @@ front-of n bytes (stream, more, is, text) =
     (stream, drop n bytes ++ more, is, front)
 
 -- ---- the first byte at which nothing is kept
-
-found_within : (p : ℕ → Bool) (start count k : ℕ) → find p (range_with_len start count) ≡ Some k → (start ≤ k) × (k < start + count)
-found_within p start zero k found = absurd (cc)
-found_within p start (suc count) k found = go (p start) refl (λ later. found_within p (start + 1) count k later)
-  where
-    go : (t : Bool) → p start ≡ t → (find p (range_with_len (start + 1) count) ≡ Some k → (start + 1 ≤ k) × (k < start + 1 + count))
-        → (start ≤ k) × (k < start + suc count)
-    go true here later = let same : start ≡ k = (let e = rw here at found in cc) in (omega (arith, same), omega (arith, same))
-    go false other later = let more = later (rw other at found) in (omega (arith, more.0), omega (arith, more.1))
 
 mapped : (r : Option ℕ) (at : ℕ) → option_map (λ n. n - 1) r ≡ Some at → (k : ℕ) × (r ≡ Some k) × (k - 1 ≡ at)
 mapped None at e = absurd (cc)
@@ -78,23 +63,22 @@ module _ (stream : List ℕ) where
       let p : ℕ → Bool = λ n. is_none (held_in (take n (stream_seen stream))) in
       let m = mapped (find p (range_with_len 1 (length (stream_seen stream)))) at some in
       let k : ℕ = m.0 in
-      let here : p k ≡ true = found_here p 1 (length (stream_seen stream)) k m.1 in
-      let inside = found_within p 1 (length (stream_seen stream)) k m.1 in
-      let next : at + 1 ≡ k = omega (arith, m.2, inside.0) in
+      let is = first_is p 1 (length (stream_seen stream)) k m.1 in
+      let next : at + 1 ≡ k = omega (arith, m.2, is.low) in
       let before : is_none (held_in (take at (stream_seen stream))) ≡ false = (elim (cases_lt 0 at) [
-        | inl some ↦ found_first p 1 (length (stream_seen stream)) k at m.1 (omega (arith, some)) (omega (arith, next))
+        | inl some ↦ is.first at (omega (arith, some)) (omega (arith, next))
         | inr none ↦ ap (λ (n : ℕ). is_none (held_in (take n (stream_seen stream)))) (let z : at ≡ 0 = omega (arith, none) in z)
       ]) in
       record {
-        within = omega (arith, few, next, inside.1);
-        allowed = omega (arith, few, next, inside.1);
-        before = subst IsStreamFront (front_seen at (omega (arith, next, inside.1))) (kept (take at (stream_seen stream)) before);
-        no_stream = λ is.
-            let whole : held_in (stream_seen stream) ≡ Some [] = ap held_in (all_seen is.short) ∙ stream-open stream is.each in absurd (cc);
+        within = omega (arith, few, next, is.high);
+        allowed = omega (arith, few, next, is.high);
+        before = subst IsStreamFront (front_seen at (omega (arith, next, is.high))) (kept (take at (stream_seen stream)) before);
+        no_stream = λ within.
+            let whole : held_in (stream_seen stream) ≡ Some [] = ap held_in (all_seen within.short) ∙ stream-open stream within.each in absurd (cc);
         byte = λ _ _ front.
             let same : take (at + 1) stream ≡ take k (stream_seen stream) =
-            ap (λ (n : ℕ). take n stream) next ∙ sym (front_seen k (omega (arith, inside.1))) in
-            lost (take k (stream_seen stream)) here (subst IsStreamFront same front);
+            ap (λ (n : ℕ). take n stream) next ∙ sym (front_seen k (omega (arith, is.high))) in
+            lost (take k (stream_seen stream)) is.passes (subst IsStreamFront same front);
       }
 
   whole_seen : take (length (stream_seen stream)) stream ≡ stream_seen stream
@@ -147,11 +131,7 @@ pub bad-stream : (stream : List ℕ) (at : ℕ) → bad_in_stream stream ≡ Som
 bad-stream stream at some = subst (Claim stream) some (claim stream)
 
 pub stream-good : (stream : List ℕ) → IsStreamWithin LONGEST_STREAM stream → bad_in_stream stream ≡ None
-stream-good stream is = go (bad_in_stream stream) (claim stream)
-  where
-    go : (place : Option ℕ) → Claim stream place → place ≡ None
-    go None good = refl
-    go (Some at) bad = absurd (bad.no_stream is)
+stream-good stream is = grind (arith, common_steps, claim)
 
 -- a place is the only one
 no-later : (stream : List ℕ) (a b : ℕ) → IsBadStream LONGEST_STREAM stream a → IsBadStream LONGEST_STREAM stream b → a < b → ⊥
@@ -159,18 +139,9 @@ no-later stream a b one other less =
     let front : take (a + 1) (take b stream) ≡ take (a + 1) stream = take-take (a + 1) b stream (omega (arith, less)) in
     one.byte (omega (arith, less, other.within)) (omega (arith, less, other.allowed)) (subst IsStreamFront front (front-of (a + 1) (take b stream) other.before))
 
-one-place : (stream : List ℕ) (a b : ℕ) → IsBadStream LONGEST_STREAM stream a → IsBadStream LONGEST_STREAM stream b → a ≡ b
-one-place stream a b one other = elim (cases_lt a b) [
-  | inl less ↦ absurd (no-later stream a b one other less)
-  | inr over ↦ elim (cases_lt b a) [
-    | inl more ↦ absurd (no-later stream b a other one more)
-    | inr under ↦ omega (arith, over, under)
-  ]
-]
-
 pub stream-bad : (stream : List ℕ) (at : ℕ) → IsBadStream LONGEST_STREAM stream at → bad_in_stream stream ≡ Some at
 stream-bad stream at is = go (bad_in_stream stream) (claim stream)
   where
     go : (place : Option ℕ) → Claim stream place → place ≡ Some at
     go None good = absurd (is.no_stream good)
-    go (Some place) bad = ap (λ (n : ℕ). Some n) (one-place stream place at bad is)
+    go (Some place) bad = ap (λ (n : ℕ). Some n) (one-number (IsBadStream LONGEST_STREAM stream) (no-later stream) place at bad is)

@@ -4,7 +4,7 @@ use Rattle.std.proofs.lemmas.Bool.{le-ltb, lt-ltb}
 use Rattle.std.proofs.lemmas.List.{append-nil, length-append, length-drop, length-take-le, take_all, take_at, take-append-drop, take-append-le}
 use Rattle.std.proofs.Math.Seq.{take-append-add}
 use Rattle.std.proofs.lemmas.Option.{none-some}
-use Rattle.gts_accum.specs.Cited.{Breaks, Call, Decoding, FrameField, FrameStep as Step, Holds, IsBad, LONGEST_STREAM, Makes, Outside, PackEnd, Packs, ReadsOn, SameFiles, SaysFront, SaysOnly, Sign, Stands, Tells, Whole, after_step, bad_in_stream, cut_at, entries_in, entries_text, entry_text, head_text, held_in, loss_in, messages_of, on, packed, signs_in, signs_of_step, stream_seen, whole}
+use Rattle.gts_accum.specs.Cited.{Breaks, Call, Decoding, FrameField, FrameStep as Step, Holds, IsBad, LONGEST_STREAM, Lost, Makes, Outside, PackEnd, Packs, PieceEnds, ReadsOn, SameFiles, SaysFront, SaysOnly, Sign, Stands, Stop, Tells, Unsaid, Whole, after_step, bad_in_stream, cut_at, entries_in, entries_text, head_text, held_in, loss_in, messages_of, on, packed, signs_in, signs_of_step, stream_seen}
 use Rattle.gts_traits.proofs.OutsideLemmas.{on-append}
 use Rattle.gts_traits.proofs.SayLemmas.{said_more, front_behind, front_more}
 use Rattle.gts_frame.specs.declared.step.Step.TheVariants as step
@@ -12,13 +12,13 @@ use Rattle.gts_frame.proofs.SignLemmas.{reads-open, reads-lost, reads-part, IsBr
 use Rattle.gts_frame.proofs.TestLemmas.{IsFirst, find-first, take_split}
 use Rattle.gts_accum.specs.declared.pack_end.PackEnd.TheVariants as end
 use Rattle.gts_accum.proofs.StreamLemmas.{messages-both}
+use Rattle.std.proofs.lemmas.Grind.{common_steps}
 
 -- ---- entries
 
 pub entries-both : (xs ys : List (List ℕ)) → entries_text (xs ++ ys) ≡ entries_text xs ++ entries_text ys
 entries-both [] ys = refl
-entries-both (m ∷ xs) ys =
-    ap (λ (l : List ℕ). entry_text (whole m) ++ l) (entries-both xs ys) ∙ sym (append_assoc (entry_text (whole m)) (entries_text xs) (entries_text ys))
+entries-both (m ∷ xs) ys = grind (arith, common_steps, entries-both xs ys)
 
 -- the entries of some signs and more
 abbrev of : List Sign → List ℕ
@@ -47,10 +47,7 @@ kept-front u v h e = go (held_in u) refl
 
 -- the bytes that are looked at, where the stream begins with some
 seen-front : (u v : List ℕ) → length u ≤ LONGEST_STREAM → stream_seen (u ++ v) ≡ u ++ take (min LONGEST_STREAM (length (u ++ v)) - length u) v
-seen-front u v few =
-    let n : ℕ = min LONGEST_STREAM (length (u ++ v)) in
-    let some : length u ≤ n = omega (arith, few, length-append u v) in
-    take_split n u v ∙ ap (λ (l : List ℕ). l ++ take (n - length u) v) (take_all n u some)
+seen-front u v few = grind (arith, common_steps, length-append, take_split, take_all)
 
 -- ---- as bytes are taken
 
@@ -66,18 +63,7 @@ pub stands_more : (observed : Type 0) (first now later : List Call) (before x : 
     → Stands observed first now before decoder → ReadsOn before x s next → next.held ≡ Some h
     → (observed → SaysOnly now later (on 0 (entries_text (messages_of (signs_of_step s next.message)))))
     → Stands observed first later (before ++ x) next
-stands_more observed first now later before x s decoder next h stands reads is said = record {
-  held = h;
-  is = is;
-  holds = record {
-    is = sym reads.held ∙ is;
-    said = λ t.
-        let more : List ℕ = of (signs_of_step s next.message) in
-        let all : entries_in (before ++ x) ≡ entries_in before ++ more = ap of reads.signs ∙ of-both (signs_in before) (signs_of_step s next.message) in
-        subst (λ (o : Outside). SaysOnly first later o) (sym (ap (on 0) all ∙ on-append 0 (entries_in before) more))
-        (said_more first now later (on 0 (entries_in before)) (on 0 more) (stands.holds.said t) (said t));
-  };
-}
+stands_more observed first now later before x s decoder next h stands reads is said = grind (arith, common_steps, of-both, on-append, said_more)
 
 -- ---- where saying failed
 
@@ -129,8 +115,7 @@ bad-lost : (stream : List ℕ) → held_in (stream_seen stream) ≡ None → bad
 bad-lost stream e = ap (λ (o : Option (List ℕ)). elim o as (λ _. Option ℕ) [ None ↦ loss_in (stream_seen stream) | Some held ↦ cut_at held stream ]) e
 
 packed-bad : (stream : List ℕ) (at : ℕ) → bad_in_stream stream ≡ Some at → packed stream ≡ entries_in (stream_seen stream)
-packed-bad stream at e =
-    ap (λ (o : Option ℕ). entries_in (stream_seen stream) ++ (elim o as (λ _. List ℕ) [ None ↦ head_text Whole 0 | Some at ↦ [] ])) e ∙ append-nil (entries_in (stream_seen stream))
+packed-bad stream at e = grind (arith, common_steps, append-nil)
 
 -- the last of these bytes breaks
 break_parts : (h x : List ℕ) (field : FrameField) → 1 ≤ length x → Makes (h ++ x) (step.Lost field) → (k : List ℕ) × (held_in (h ++ take (length x - 1) x) ≡ Some k)
@@ -177,28 +162,16 @@ past_by : (h stream : List ℕ) → LONGEST_STREAM < length stream → length (s
 past_by [] stream past seen = ap (λ (t : Bool). cond t (Some LONGEST_STREAM) None) (lt-ltb LONGEST_STREAM (length stream) past)
 past_by (b ∷ h) stream past seen = ap (λ (n : ℕ). Some n) seen
 
-pub goes_past : (observed : Type 0) (first now : List Call) (u v : List ℕ) (held : List ℕ) → Holds observed first now u held → length u ≡ LONGEST_STREAM → 1 ≤ length v
+goes_past : (observed : Type 0) (first now : List Call) (u v : List ℕ) (held : List ℕ) → Holds observed first now u held → length u ≡ LONGEST_STREAM → 1 ≤ length v
     → IsBad observed first now (u ++ v) LONGEST_STREAM
 goes_past observed first now u v held holds long some =
-    let few : length u ≤ LONGEST_STREAM = omega (arith, long) in
-    let all : length (u ++ v) ≡ length u + length v = length-append u v in
-    let none : min LONGEST_STREAM (length (u ++ v)) - length u ≡ 0 = omega (arith, all, long) in
-    let seen : stream_seen (u ++ v) ≡ u = seen-front u v few ∙ ap (λ (n : ℕ). u ++ take n v) none ∙ append-nil u in
-    let cut : (h : List ℕ) → cut_at h (u ++ v) ≡ Some LONGEST_STREAM = λ h. past_by h (u ++ v) (omega (arith, all, long, some)) (ap length seen ∙ long) in
-    let place : bad_in_stream (u ++ v) ≡ Some LONGEST_STREAM = bad-kept (u ++ v) held (ap held_in seen ∙ holds.is) ∙ cut held in
-    record {
-      place = place;
-      said = λ t. subst (λ (l : List ℕ). SaysOnly first now (on 0 l)) (sym (packed-bad (u ++ v) LONGEST_STREAM place ∙ ap (λ (l : List ℕ). entries_in l) seen)) (holds.said t);
-    }
+    grind (arith, common_steps, length-append, seen-front, append-nil, past_by, bad-kept, packed-bad)
 
 -- ---- an entry in two pieces
 
 pub told_behind : {T E : Type 0} (result : Result T E) (a b c : List Call) (x y : List ℕ) → SaysOnly a b (on 0 x) → Tells result (on 0 y) b c → Tells result (on 0 (x ++ y)) a c
 told_behind (Ok u) a b c x y first second = subst (λ (o : Outside). SaysOnly a c o) (sym (on-append 0 x y)) (said_more a b c (on 0 x) (on 0 y) first second)
 told_behind (Err e) a b c x y first second = subst (λ (o : Outside). SaysFront a c o) (sym (on-append 0 x y)) (front_behind a b c (on 0 x) (on 0 y) first second)
-
-pub untold_before : (a b : List Call) (x y : List ℕ) → SaysFront a b (on 0 x) → SaysFront a b (on 0 (x ++ y))
-untold_before a b x y first = subst (λ (o : Outside). SaysFront a b o) (sym (on-append 0 x y)) (front_more a b (on 0 x) (on 0 y) first)
 
 -- ---- the end of a stream in which nothing is left open
 
@@ -212,19 +185,13 @@ seen_all stream few = take_all (min LONGEST_STREAM (length stream)) stream (omeg
 
 -- it is bad nowhere
 pub sound_at_end : (stream held : List ℕ) → length stream ≤ LONGEST_STREAM → held_in stream ≡ Some held → length held ≡ 0 → bad_in_stream stream ≡ None
-sound_at_end stream held few is none =
-    let open_none : held_in (stream_seen stream) ≡ Some [] = ap held_in (seen_all stream few) ∙ is ∙ ap (λ (h : List ℕ). Some h) (none_held held none) in
-    bad-kept stream [] open_none ∙ ap (λ (t : Bool). cond t (Some LONGEST_STREAM) None) (le-ltb LONGEST_STREAM (length stream) few)
+sound_at_end stream held few is none = grind (arith, common_steps, seen_all, none_held, bad-kept, le-ltb)
 
 -- its file is that of its messages, and the end
 pub told_to_end : {T E : Type 0} (result : Result T E) (first now later : List Call) (stream held : List ℕ) → length stream ≤ LONGEST_STREAM
     → held_in stream ≡ Some held → length held ≡ 0 → SaysOnly first now (on 0 (entries_in stream)) → Tells result (on 0 (head_text Whole 0)) now later
     → Tells result (on 0 (packed stream)) first later
-told_to_end result first now later stream held few is none said last =
-    let text : packed stream ≡ entries_in stream ++ head_text Whole 0 =
-    ap (λ (o : Option ℕ). entries_in (stream_seen stream) ++ (elim o as (λ _. List ℕ) [ None ↦ head_text Whole 0 | Some at ↦ [] ])) (sound_at_end stream held few is none)
-    ∙ ap (λ (l : List ℕ). entries_in l ++ head_text Whole 0) (seen_all stream few) in
-    subst (λ (l : List ℕ). Tells result (on 0 l) first later) (sym text) (told_behind result first now later (entries_in stream) (head_text Whole 0) said last)
+told_to_end result first now later stream held few is none said last = grind (arith, common_steps, sound_at_end, seen_all, told_behind)
 
 -- ---- one step of the decoder, of a piece
 
@@ -263,8 +230,7 @@ split_piece before done rest piece more n text =
 
 within : (before done rest piece : List ℕ) (n start : ℕ) → piece ≡ done ++ rest → start ≡ length before → n ≤ length rest → start + length piece ≤ LONGEST_STREAM
     → length ((before ++ done) ++ take n rest) ≤ LONGEST_STREAM
-within before done rest piece n start text here count few =
-    omega (arith, ap length text, length-append done rest, length-append (before ++ done) (take n rest), length-append before done, length-take-le n rest count, here, few)
+within before done rest piece n start text here count few = grind (arith, common_steps, length-append, length-take-le)
 
 pub piece_lost : (observed : Type 0) (first now : List Call) (before done rest piece more : List ℕ) (start at n : ℕ) (s : Step) (field : FrameField) (decoder next : Decoding)
     → Stands observed first now (before ++ done) decoder → IsStep rest n s decoder next → s ≡ step.Lost field → piece ≡ done ++ rest → at ≡ start + length done → start ≡ length before
@@ -294,9 +260,7 @@ piece_unsaid observed first now later before done rest piece more start n s deco
     subst (λ (l : List ℕ). SaysFront first later (on 0 (packed l))) (split_piece before done rest piece more n text) fails
 
 pub rest_of_piece : (done rest piece : List ℕ) (n : ℕ) → piece ≡ done ++ rest → piece ≡ (done ++ take n rest) ++ take (length rest - n) (drop n rest)
-rest_of_piece done rest piece n text =
-    text ∙ ap (λ (l : List ℕ). done ++ l) (sym (take-append-drop n rest)) ∙ sym (append_assoc done (take n rest) (drop n rest))
-    ∙ ap (λ (l : List ℕ). (done ++ take n rest) ++ l) (sym (take_all (length rest - n) (drop n rest) (omega (arith, length-drop n rest))))
+rest_of_piece done rest piece n text = grind (arith, common_steps, take-append-drop, take_all, length-drop)
 
 -- ---- a whole stream
 
@@ -308,7 +272,7 @@ same_files observed end.SayFault stream left old new packs t = (packs t).said.fi
 same_files observed end.NoMemory stream left old new packs t = (packs.1 t).files
 
 -- a read of a stream, of which not more bytes are taken than there is room for
-pub read_text : (stream bytes left into new : List ℕ) (room count : ℕ) → stream ≡ bytes ++ left → left ≡ take count into ++ new → room ≤ count → count ≤ length into
+read_text : (stream bytes left into new : List ℕ) (room count : ℕ) → stream ≡ bytes ++ left → left ≡ take count into ++ new → room ≤ count → count ≤ length into
     → stream ≡ (bytes ++ take room into) ++ (drop room (take count into) ++ new)
 read_text stream bytes left into new room count text next most there =
     let front : take room (take count into) ≡ take room into =
@@ -317,3 +281,36 @@ read_text stream bytes left into new room count text next most there =
     ap (λ (l : List ℕ). l ++ new) (sym (take-append-drop room (take count into)) ∙ ap (λ (l : List ℕ). l ++ drop room (take count into)) front)
     ∙ append_assoc (take room into) (drop room (take count into)) new in
     text ∙ ap (λ (l : List ℕ). bytes ++ l) (next ∙ all) ∙ sym (append_assoc bytes (take room into) (drop room (take count into) ++ new))
+
+-- what the end of a piece means for its stream
+pub record InStream (observed : Type 0) (first now : List Call) (stream : List ℕ) (r : Result (Unit {0}) Stop) : Type 0 where
+  pub lost : (at : ℕ) → r ≡ Err (Lost at) → IsBad observed first now stream at
+  pub unsaid : r ≡ Err Unsaid → observed → SaysFront first now (on 0 (packed stream))
+
+pub in_stream : (observed : Type 0) (first now : List Call) (stream bytes left into new : List ℕ) (room count : ℕ) (r : Result (Unit {0}) Stop) (decoder : Decoding)
+    → stream ≡ bytes ++ left → left ≡ take count into ++ new → room ≤ count → count ≤ length into → PieceEnds observed first now (bytes ++ take room into) r decoder
+    → InStream observed first now stream r
+in_stream observed first now stream bytes left into new room count r decoder text next most there ends =
+    subst (λ (l : List ℕ). InStream observed first now l r) (sym (read_text stream bytes left into new room count text next most there)) (go r ends)
+  where
+    more : List ℕ
+    more = drop room (take count into) ++ new
+
+    go : (r : Result (Unit {0}) Stop) → PieceEnds observed first now (bytes ++ take room into) r decoder → InStream observed first now ((bytes ++ take room into) ++ more) r
+    go (Ok _) ends = record { lost = λ at is. absurd (cc is); unsaid = λ is. absurd (cc is) }
+    go (Err (Lost place)) ends = record { lost = λ at is. subst (IsBad observed first now ((bytes ++ take room into) ++ more)) (cc is) (ends more); unsaid = λ is. absurd (cc is) }
+    go (Err Unsaid) ends = record { lost = λ at is. absurd (cc is); unsaid = λ is. ends more }
+
+pub piece_files : (observed : Type 0) (first now : List Call) (bytes : List ℕ) (r : Result (Unit {0}) Stop) (decoder : Decoding) → PieceEnds observed first now bytes r decoder → observed
+    → SameFiles first now
+piece_files observed first now bytes (Ok _) decoder ends t = (ends.holds.said t).files
+piece_files observed first now bytes (Err (Lost at)) decoder ends t = ((ends []).said t).files
+piece_files observed first now bytes (Err Unsaid) decoder ends t = (ends [] t).said.files
+
+pub past_stream : (observed : Type 0) (first now : List Call) (stream bytes left into new : List ℕ) (room count : ℕ) (decoder : Decoding)
+    → stream ≡ bytes ++ left → left ≡ take count into ++ new → room < count → count ≤ length into → length (bytes ++ take room into) ≡ LONGEST_STREAM
+    → Stands observed first now (bytes ++ take room into) decoder → IsBad observed first now stream LONGEST_STREAM
+past_stream observed first now stream bytes left into new room count decoder text next past there long stands =
+    subst (λ (l : List ℕ). IsBad observed first now l LONGEST_STREAM) (sym (read_text stream bytes left into new room count text next (omega (arith, past)) there))
+    (goes_past observed first now (bytes ++ take room into) (drop room (take count into) ++ new) stands.held stands.holds long
+    (omega (arith, length-append (drop room (take count into)) new, length-drop room (take count into), length-take-le count into there, past)))

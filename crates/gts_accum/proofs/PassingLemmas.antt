@@ -1,8 +1,9 @@
 -- What calls make of a file whose source is observed, one after another.
-use Rattle.std.proofs.Common.{◌≡◌, ◌≤◌, List, ℕ, [], ◌∷◌, ◌++◌, length, take, Result, Ok, Err, refl, sym, ap, ◌∙◌, append_assoc, arith}
+use Rattle.std.proofs.Common.{◌≡◌, ◌+◌, ◌-◌, ◌≤◌, List, ℕ, [], ◌∷◌, ◌++◌, length, take, Result, Ok, Err, refl, sym, ap, subst, ◌∙◌, append_assoc, arith}
 use Rattle.std.proofs.lemmas.List.{length-append}
-use Rattle.gts_accum.specs.Cited.{Covers, Passes, Rest, Takes, Unpacking, ahead_of, behind, reading, rest_of}
-use Rattle.gts_accum.proofs.UnpackingLemmas.{with_bad}
+use Rattle.gts_accum.specs.Cited.{Covers, Format, Head, IsNext, LONGEST_FILE, Next, Passes, Rest, Takes, UnpackedParts, Unpacking, ahead, ahead_of, back_of, behind, entry_rest, reading, reading_from, rest_of, unpacking_of}
+use Rattle.gts_accum.specs.declared.next.Next.TheVariants.{Entry}
+use Rattle.gts_accum.proofs.UnpackingLemmas.{ahead-entry, entry_reads, entry-done, given-all, with_bad}
 
 no-front : (xs ys : List ℕ) → xs ++ ys ≡ [] → (xs ≡ []) × (ys ≡ [])
 no-front [] ys e = (refl, e)
@@ -51,3 +52,43 @@ module _ {S : Type 0} (left : S → List ℕ) where
         ap (λ (l : List ℕ). rest_of c (reading l)) (append_assoc k.taken p.taken more) ∙ k.rest (p.taken ++ more) later
         ∙ ap (behind k.given) (p.rest more none) ∙ behind-both k.given g (ahead_of b more);
   }
+
+  -- ---- the bytes of an entry
+
+  -- what a call leaves of a capture, and so of one whose source has this left
+  pub gives-by : (a b : Unpacking S) (given : List ℕ) → Passes left a b given → ahead left a ≡ behind given (ahead left b)
+  gives-by a b given p = ap (ahead_of a) p.text ∙ p.rest (left b.source) (λ e. e)
+
+  module _ (old : UnpackedParts S) (format : Format) (size count : ℕ) (into tail : List ℕ) (source : S) (next : old.next ≡ Entry format size)
+      (given : old.given ≡ length old.made) (there : count ≤ length into) (few : count ≤ size) (place : old.at + count ≤ LONGEST_FILE)
+      (text : left old.source ≡ take count into ++ left source) where
+    passed : (now : UnpackedParts S) → source ≡ now.source
+        → ((more : List ℕ) → entry_rest old.circuit format (size - count) (old.at + count) more ≡ ahead_of (unpacking_of now) more)
+        → Passes left (unpacking_of old) (unpacking_of now) (take count (into ++ tail))
+    passed now same goes = record {
+      taken = take count into;
+      text = text ∙ ap (λ (s : S). take count into ++ left s) same;
+      rest = λ more _.
+          ahead-entry (λ _. take count into ++ more) (unpacking_of old) format size next
+          ∙ given-all old.made old.given (entry_rest old.circuit format size old.at (take count into ++ more)) given
+          ∙ entry_reads old.circuit format size old.at count into tail (take count into ++ more) more there few place refl
+          ∙ ap (behind (take count (into ++ tail))) (goes more);
+    }
+
+    -- more of it are to come
+    pub passes-more : let now : UnpackedParts S = record old { source = source; at = old.at + count; next = Entry format (size - count) } in
+        Passes left (unpacking_of old) (unpacking_of now) (take count (into ++ tail))
+    passes-more =
+        passed (record old { source = source; at = old.at + count; next = Entry format (size - count) }) refl (λ more. sym (given-all old.made old.given _ given))
+
+    -- they were its last
+    pub passes-last : (now : UnpackedParts S) (piece : List ℕ) → size - count ≡ 0 → IsNext old.next old.at (take old.held old.head) → piece ≡ back_of format
+        → now ≡ record old { source = source; at = old.at + count; next = Head; made = piece; given = 0 }
+        → Passes left (unpacking_of old) (unpacking_of now) (take count (into ++ tail))
+    passes-last now piece all sound closes is =
+        let held : List ℕ = take old.held old.head in
+        let entry : IsNext (Entry format size) old.at held = subst (λ (n : Next). IsNext n old.at held) next sound in
+        rw is (passed (record old { source = source; at = old.at + count; next = Head; made = piece; given = 0 }) refl (λ more.
+        ap (λ (n : ℕ). entry_rest old.circuit format n (old.at + count) more) all ∙ entry-done old.circuit format (old.at + count) more
+        ∙ ap (λ (l : List ℕ). behind (back_of format) (rest_of old.circuit (reading_from (old.at + count) (l ++ more)))) (sym entry.1)
+        ∙ ap (λ (l : List ℕ). behind l (rest_of old.circuit (reading_from (old.at + count) (held ++ more)))) (sym closes)))

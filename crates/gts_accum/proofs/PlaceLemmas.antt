@@ -1,25 +1,20 @@
 -- What a file is read as is what the grammar says of it, and so is its bad place.
 use Rattle.std.proofs.Common.{◌≡◌, ℕ, zero, suc, ◌+◌, ◌-◌, ◌<◌, ◌≤◌, ◌⊎◌, min, Bool, true, false, not, ◌==◌, nat_lt, List, [], ◌∷◌, ◌++◌, length, take, drop, Option, Some, None, inl, inr, refl, sym, ap, subst, ◌∙◌, append_assoc, arith, flat_map}
-use Rattle.gts_accum.specs.Cited.{Begins, ENTRY_HEAD, Ends, Entry, Format, IsBadAt, IsEntry, IsFile, IsHead, IsSize, LONGEST_FILE, Reading, bad_in, badplace, begins_head, entry_text, find, format_in, head_seen, head_text, part_seen, place_of, range_with_len, read_from, reading, reading_from, size_in, with_entry}
+use Rattle.gts_accum.specs.Cited.{Begins, ENTRY_HEAD, Ends, Entry, Format, IsBadAt, IsEntry, IsFile, IsHead, IsSize, LONGEST_FILE, Reading, bad_in, badplace, begins_head, entry_text, format_in, head_seen, head_text, part_seen, place_of, read_from, reading, reading_from, size_in, with_entry}
 use Rattle.std.proofs.lemmas.Bool.{cases_lt, eq-eqb, eqb-true, ltb-true, not-true, not-false, cases_Bool, ltb-false as less}
-use Rattle.std.proofs.lemmas.List.{append-nil, length-append, length-take, length-drop, take-append-drop, take-take, drop-drop, nil_from_length}
+use Rattle.std.proofs.lemmas.List.{append-nil, length-append, take_all, length-take, length-drop, take-append-drop, take-take, drop-drop, nil_from_length}
 use Rattle.std.proofs.Math.Seq.{take-append-add}
-use Rattle.gts_accum.proofs.FileLemmas.{good-whole, step, read-step, step-empty, step-bad, step-short, step-end, step-entry, entry_step, entry_step-cut, entry_step-whole, bad_in-within}
+use Rattle.gts_accum.proofs.FileLemmas.{first_is, good-whole, step, read-step, step-empty, step-bad, step-short, step-end, step-entry, entry_step, entry_step-cut, entry_step-whole, bad_in-within}
 use Rattle.gts_accum.proofs.WrittenLemmas.{given-head, length-head, size-head, format-head, reads-end, reads-entry}
 use Rattle.gts_accum.proofs.StreamLemmas.{head-front, front-head}
-use Rattle.gts_accum.proofs.GrammarLemmas.{same_head, uncons, cons, begins-cons, begins-uncons, nothing-begins, part-begins, front-begins, begins-front, length-entry}
+use Rattle.gts_accum.proofs.GrammarLemmas.{regroup, same_head, uncons, cons, begins-cons, begins-uncons, nothing-begins, part-begins, front-begins, begins-front, length-entry}
+use Rattle.std.proofs.lemmas.Grind.{common_steps}
 
 -- ---- a file is read as its entries
 
 pub reads-entries : (at : ℕ) (file : List ℕ) (written : List Entry) → at ≤ LONGEST_FILE → IsFile (LONGEST_FILE - at) file written
     → reading_from at file ≡ record { entries = written; ending = Ends }
-reads-entries at file [] place f = elim f.ends [
-  | inl none ↦ ap (reading_from at) (f.text ∙ ap (λ (l : List ℕ). l ++ f.unread) none.0 ∙ none.1)
-  | inr head ↦
-      let h : List ℕ = head_text head.0 0 in
-      ap (reading_from at) (f.text ∙ ap (λ (l : List ℕ). l ++ f.unread) head.1)
-      ∙ reads-end at head.0 f.unread (omega (arith, f.short, ap length head.1, length-head head.0 0, place))
-]
+reads-entries at file [] place f = grind (arith, common_steps, reads-end, length-head)
 reads-entries at file (e ∷ rest) place f =
     let size : ℕ = length e.bytes in
     let h : List ℕ = head_text e.format size in
@@ -39,29 +34,8 @@ reads-entries at file (e ∷ rest) place f =
     ap (reading_from at) (f.text ∙ regroup h e.bytes later f.end f.unread)
     ∙ reads-entry at e.format e.bytes behind f.each.0 room
     ∙ ap (with_entry e.format e.bytes) (reads-entries (at + ENTRY_HEAD + size) behind rest room next)
-  where
-    regroup : (k b l e u : List ℕ) → ((k ++ b) ++ l) ++ e ++ u ≡ k ++ (b ++ (l ++ e ++ u))
-    regroup k b l e u = simp append_assoc
 
 -- ---- the first byte that no head has there
-
-pub found_here : (p : ℕ → Bool) (start count k : ℕ) → find p (range_with_len start count) ≡ Some k → p k ≡ true
-found_here p start zero k found = absurd (cc)
-found_here p start (suc count) k found = go (p start) refl (λ later. found_here p (start + 1) count k later)
-  where
-    go : (t : Bool) → p start ≡ t → (find p (range_with_len (start + 1) count) ≡ Some k → p k ≡ true) → p k ≡ true
-    go true here later = let same : start ≡ k = (let e = rw here at found in cc) in ap p (sym same) ∙ here
-    go false other later = later (rw other at found)
-
-pub found_first : (p : ℕ → Bool) (start count k j : ℕ) → find p (range_with_len start count) ≡ Some k → start ≤ j → j < k → p j ≡ false
-found_first p start zero k j found low high = absurd (cc)
-found_first p start (suc count) k j found low high = go (p start) refl (cases_lt start j) (λ later more. found_first p (start + 1) count k j later more high)
-  where
-    go : (t : Bool) → p start ≡ t → (start < j) ⊎ (j ≤ start) → (find p (range_with_len (start + 1) count) ≡ Some k → start + 1 ≤ j → p j ≡ false)
-        → p j ≡ false
-    go true here _ later = let same : start ≡ k = (let e = rw here at found in cc) in absurd (omega (arith, same, low, high))
-    go false other (inl more) later = later (rw other at found) (omega (arith, more))
-    go false other (inr at) later = let same : j ≡ start = omega (arith, at, low) in ap p same ∙ other
 
 -- what begins a head that is there
 some-begins : (bytes : List ℕ) → (0 < length bytes → begins_head bytes ≡ true) → Begins bytes
@@ -89,11 +63,12 @@ bad-byte most bytes k found =
     let head : List ℕ = take limit bytes in
     let p : ℕ → Bool = λ n. not (begins_head (take n head)) in
     let range = bad_in-within head k found in
+    let first = first_is p 1 (length head) k found in
     let few = length-take limit bytes in
     let front : (n : ℕ) → n ≤ k → take n head ≡ take n bytes = λ n small. take-take n limit bytes (omega (arith, small, range.1, few)) in
     let long : (n : ℕ) → n ≤ k → length (take n bytes) ≡ n = λ n small. omega (arith, length-take n bytes, small, range.1, few) in
     let not_here : begins_head (take k bytes) ≡ false =
-    ap begins_head (sym (front k (omega arith))) ∙ not-true (begins_head (take k head)) (found_here p 1 (length head) k found) in
+    ap begins_head (sym (front k (omega arith))) ∙ not-true (begins_head (take k head)) first.passes in
     let byte : Begins (take k bytes) → ⊥ = none-begins (take k bytes) (omega (arith, long k (omega arith), range.0)) (omega (arith, long k (omega arith), range.1, few)) not_here in
     let P : ℕ → Type 0 = λ n. Begins (take n bytes) in (
       range.0,
@@ -102,7 +77,7 @@ bad-byte most bytes k found =
         allowed = omega (arith, range, few);
         before = some-begins (take (k - 1) bytes) (λ some.
             ap begins_head (sym (front (k - 1) (omega arith)))
-            ∙ not-false (begins_head (take (k - 1) head)) (found_first p 1 (length head) k (k - 1) found (omega (arith, some, long (k - 1) (omega arith))) (omega (arith, range.0))));
+            ∙ not-false (begins_head (take (k - 1) head)) (first.first (k - 1) (omega (arith, some, long (k - 1) (omega arith))) (omega (arith, range.0))));
         no_file = λ entries f. byte (file-begins most k bytes entries f);
         byte = λ inside allowed begins. byte (subst P (let e : k - 1 + 1 ≡ k = omega (arith, range.0) in e) begins);
       },
@@ -113,18 +88,8 @@ bad-byte most bytes k found =
 -- a file with bytes has a whole head
 head-least : (most : ℕ) (bytes : List ℕ) (entries : List Entry) → IsFile most bytes entries → 0 < length bytes
     → (ENTRY_HEAD ≤ length bytes) × (ENTRY_HEAD ≤ most)
-head-least most bytes [] f some = elim f.ends [
-  | inl none ↦ absurd (omega (arith, some, ap length f.text, length-append f.end f.unread, ap length none.0, ap length none.1))
-  | inr head ↦ (
-    omega (arith, ap length f.text, length-append f.end f.unread, ap length head.1, length-head head.0 0),
-    omega (arith, f.short, ap length head.1, length-head head.0 0),
-  )
-]
-head-least most bytes (e ∷ rest) f some =
-    let front : List ℕ = entry_text e ++ flat_map entry_text rest in (
-      omega (arith, ap length f.text, ap length (append_assoc front f.end f.unread), length-append front (f.end ++ f.unread), length-append (entry_text e) (flat_map entry_text rest), length-entry e),
-      omega (arith, f.short, length-append front f.end, length-append (entry_text e) (flat_map entry_text rest), length-entry e),
-    )
+head-least most bytes [] f some = grind (arith, common_steps, length-append, length-head)
+head-least most bytes (e ∷ rest) f some = grind (arith, common_steps, length-append, length-entry)
 
 cut-head : (most : ℕ) (bytes : List ℕ) → let head = take (min ENTRY_HEAD most) bytes in
     0 < length bytes → bad_in head ≡ None → length head < ENTRY_HEAD → IsBadAt most bytes (length head)
@@ -132,7 +97,7 @@ cut-head most bytes some good short =
     let limit : ℕ = min ENTRY_HEAD most in
     let head : List ℕ = take limit bytes in
     let few = length-take limit bytes in
-    let front : take (length head) bytes ≡ head = sym (take-take (length head) limit bytes (omega (arith, few))) ∙ whole head in
+    let front : take (length head) bytes ≡ head = sym (take-take (length head) limit bytes (omega (arith, few))) ∙ take_all (length head) head (omega arith) in
     let P : List ℕ → Type 0 = Begins in
     record {
       within = omega (arith, few);
@@ -141,10 +106,6 @@ cut-head most bytes some good short =
       no_file = λ entries f. let least = head-least most bytes entries f some in omega (arith, least, few, short);
       byte = λ inside allowed begins. omega (arith, inside, allowed, few, short);
     }
-  where
-    whole : (xs : List ℕ) → take (length xs) xs ≡ xs
-    whole [] = refl
-    whole (x ∷ xs) = ap (λ (l : List ℕ). x ∷ l) (whole xs)
 
 -- ---- a whole head
 
@@ -185,26 +146,8 @@ ended most bytes format room head = record {
 
 entry-least : (most : ℕ) (h rest : List ℕ) (format : Format) (size : ℕ) (entries : List Entry) → IsSize format size → h ≡ head_text format size
     → IsFile most (h ++ rest) entries → (size ≤ length rest) × (ENTRY_HEAD + size ≤ most)
-entry-least most h rest format size [] is same f = elim f.ends [
-  | inl none ↦ absurd (omega (arith, ap length f.text, length-append f.end f.unread, ap length none.0, ap length none.1, length-append h rest, ap length same, length-head format size))
-  | inr head ↦
-      let text : head_text format size ++ rest ≡ head_text head.0 0 ++ f.unread =
-      ap (λ (l : List ℕ). l ++ rest) (sym same) ∙ f.text ∙ ap (λ (l : List ℕ). l ++ f.unread) head.1 in
-      let alike = same_head format head.0 size 0 rest f.unread (inr is) (inl refl) text in
-      absurd (omega (arith, alike.size, is.least))
-]
-entry-least most h rest format size (e ∷ more) is same f =
-    let k : List ℕ = head_text e.format (length e.bytes) in
-    let later : List ℕ = flat_map entry_text more in
-    let text : head_text format size ++ rest ≡ k ++ (e.bytes ++ (later ++ f.end ++ f.unread)) =
-    ap (λ (l : List ℕ). l ++ rest) (sym same) ∙ f.text ∙ regroup k e.bytes later f.end f.unread in
-    let alike = same_head format e.format size (length e.bytes) rest _ (inr is) (inr f.each.0) text in (
-      omega (arith, alike.size, ap length alike.rest, length-append e.bytes (later ++ f.end ++ f.unread)),
-      omega (arith, alike.size, f.short, length-append (entry_text e ++ later) f.end, length-append (entry_text e) later, length-entry e),
-    )
-  where
-    regroup : (k b l e u : List ℕ) → ((k ++ b) ++ l) ++ e ++ u ≡ k ++ (b ++ (l ++ e ++ u))
-    regroup k b l e u = simp append_assoc
+entry-least most h rest format size [] is same f = grind (arith, common_steps, length-append, length-head, same_head)
+entry-least most h rest format size (e ∷ more) is same f = grind (arith, common_steps, regroup, same_head, length-append, length-entry)
 
 cut-entry : (most : ℕ) (bytes : List ℕ) (format : Format) (size : ℕ) → ENTRY_HEAD ≤ most → ENTRY_HEAD ≤ length bytes → IsSize format size
     → take ENTRY_HEAD bytes ≡ head_text format size
@@ -221,7 +164,7 @@ cut-entry most bytes format size room long is head short =
     let ten : ENTRY_HEAD + length part ≡ length h + length part = omega (arith, ap length head, length-head format size) in
     let front : take (ENTRY_HEAD + length part) bytes ≡ head_text format size ++ part =
     ap (λ (l : List ℕ). take (ENTRY_HEAD + length part) l) (sym whole) ∙ ap (λ (n : ℕ). take n (h ++ rest)) ten ∙ take-append-add h rest (length part)
-    ∙ ap (λ (l : List ℕ). h ++ l) (sym (take-take (length part) limit rest (omega (arith, few))) ∙ all part) ∙ ap (λ (l : List ℕ). l ++ part) head in
+    ∙ ap (λ (l : List ℕ). h ++ l) (sym (take-take (length part) limit rest (omega (arith, few))) ∙ take_all (length part) part (omega arith)) ∙ ap (λ (l : List ℕ). l ++ part) head in
     record {
       within = omega (arith, few, left, long);
       allowed = omega (arith, few, room);
@@ -231,10 +174,6 @@ cut-entry most bytes format size room long is head short =
           let least = entry-least most h rest format size entries is head (subst P (sym whole) f) in omega (arith, least, few, short);
       byte = λ inside allowed begins. omega (arith, inside, allowed, few, left, short);
     }
-  where
-    all : (xs : List ℕ) → take (length xs) xs ≡ xs
-    all [] = refl
-    all (x ∷ xs) = ap (λ (l : List ℕ). x ∷ l) (all xs)
 
 -- ---- behind an entry
 
@@ -364,10 +303,7 @@ at-step at bytes more place later =
     ]
 
 pub claim : (n at : ℕ) (bytes : List ℕ) → length bytes ≤ n → at ≤ LONGEST_FILE → Claim at bytes (read_from n at bytes)
-claim zero at bytes few place =
-    let empty : bytes ≡ [] = nil_from_length bytes (omega (arith, few)) in
-    let P : List ℕ → Type 0 = λ l. IsFile (LONGEST_FILE - at) l [] in
-    inl (refl, subst P (sym empty) (empty-file (LONGEST_FILE - at)))
+claim zero at bytes few place = grind (arith, common_steps, nil_from_length, empty-file)
 claim (suc n) at bytes few place =
     let size : ℕ = size_in (head_seen at bytes) in
     let rest : List ℕ = drop (ENTRY_HEAD + size) bytes in
@@ -379,10 +315,7 @@ claim (suc n) at bytes few place =
 -- ---- files
 
 pub good-file : (file : List ℕ) → badplace file ≡ None → IsFile LONGEST_FILE file (reading file).entries
-good-file file none = elim (claim (length file) 0 file (omega arith) (omega arith)) [
-  | inl good ↦ good.1
-  | inr bad ↦ absurd (let e = bad.1 in cc)
-]
+good-file file none = grind (arith, common_steps, claim)
 
 -- a place is the only one
 no-later : (most : ℕ) (file : List ℕ) (a b : ℕ) → IsBadAt most file a → IsBadAt most file b → a < b → ⊥
@@ -390,14 +323,9 @@ no-later most file a b one other less =
     let front : take (a + 1) (take b file) ≡ take (a + 1) file = take-take (a + 1) b file (omega (arith, less)) in
     one.byte (omega (arith, less, other.within)) (omega (arith, less, other.allowed)) (subst Begins front (front-of-begins (a + 1) (take b file) other.before))
 
-one-place : (most : ℕ) (file : List ℕ) (a b : ℕ) → IsBadAt most file a → IsBadAt most file b → a ≡ b
-one-place most file a b one other = elim (cases_lt a b) [
-  | inl less ↦ absurd (no-later most file a b one other less)
-  | inr over ↦ elim (cases_lt b a) [
-    | inl more ↦ absurd (no-later most file b a other one more)
-    | inr under ↦ omega (arith, over, under)
-  ]
-]
+-- what holds of no two numbers, one below the other, holds of one
+pub one-number : (P : ℕ → Type 0) → ((a b : ℕ) → P a → P b → a < b → ⊥) → (a b : ℕ) → P a → P b → a ≡ b
+one-number P apart a b one other = grind (arith, common_steps, cases_lt, less)
 
 pub bad-file : (file : List ℕ) (at : ℕ) → badplace file ≡ Some at → IsBadAt LONGEST_FILE file at
 bad-file file at some = elim (claim (length file) 0 file (omega arith) (omega arith)) [
@@ -410,5 +338,5 @@ bad-file file at some = elim (claim (length file) 0 file (omega arith) (omega ar
 pub file-bad : (file : List ℕ) (at : ℕ) → IsBadAt LONGEST_FILE file at → badplace file ≡ Some at
 file-bad file at is = elim (claim (length file) 0 file (omega arith) (omega arith)) [
   | inl good ↦ absurd (is.no_file (reading file).entries good.1)
-  | inr bad ↦ bad.1 ∙ ap (λ (n : ℕ). Some n) (let e : 0 + bad.0 ≡ at = omega (arith, one-place LONGEST_FILE file bad.0 at bad.2 is) in e)
+  | inr bad ↦ bad.1 ∙ ap (λ (n : ℕ). Some n) (let e : 0 + bad.0 ≡ at = omega (arith, one-number (IsBadAt LONGEST_FILE file) (no-later LONGEST_FILE file) bad.0 at bad.2 is) in e)
 ]

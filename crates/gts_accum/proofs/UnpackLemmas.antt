@@ -1,5 +1,5 @@
 -- How the run of a file ended, by the run of the capture that it stands for.
-use Rattle.std.proofs.Common.{◌≡◌, ℕ, ◌<◌, ◌≤◌, List, [], ◌++◌, length, Option, Some, None, inl, inr, refl, sym, subst, ◌∙◌, arith}
+use Rattle.std.proofs.Common.{◌≡◌, ℕ, ◌<◌, ◌≤◌, List, [], ◌++◌, length, Option, Some, None, inl, inr, refl, sym, subst, arith}
 use Rattle.std.proofs.lemmas.List.{append-nil}
 use Rattle.gts_accum.specs.declared.end.UnpackEnd.TheVariants.{Bad}
 use Rattle.gts_accum.specs.Cited.{Directory, Ended, EndsEarly, HasFileCause, HasReplayCause, HasUnpackCause, IsEndAt, IsEndOf, IsFileEnd, IsLeft, IsPlaceMet, IsWhole, Journaled, ReplayEnd, Standing, StandsFor, Step, UnpackEnd, Unpacks, badplace, captured, readable, reading, steps_read}
@@ -9,6 +9,7 @@ use Rattle.gts_connection.specs.Cited.{Reading}
 use Rattle.gts_connection.proofs.LawLemmas.{reads_once, early_is_none}
 use Rattle.gts_replay.specs.declared.end.ReplayEnd.TheVariants as end
 use Rattle.gts_accum.proofs.LawLemmas.{file-whole, file-early}
+use Rattle.std.proofs.lemmas.Grind.{common_steps}
 
 -- ---- the one reading of the capture
 
@@ -42,26 +43,16 @@ cut-one d file c at steps few here early = go (badplace file) refl
 
 -- an end of the capture's run that is no early one is that of the file's
 uncut : (r : ReplayEnd) (result : UnpackEnd) → ((at : ℕ) → r ≡ end.Capture at → ⊥) → result ≡ Ended r → IsEndOf r result
-uncut end.Done result other is = is
 uncut (end.Capture at) result other is = absurd (other at refl)
-uncut end.SourceFault result other is = is
-uncut (end.Reopen fault) result other is = is
-uncut (end.Fault fault) result other is = is
-uncut (end.Compaction fault) result other is = is
-uncut end.NoMemory result other is = is
+uncut _ result other is = is
 
 -- what a file's run is told to have met
 told : {O W : Type 0} (meanings : Standing O W) (station observed : Type 0) (o : O) (h : List Entry) (r : ReplayEnd) (old new : W) (file left : List ℕ) (c : ℕ)
     → length (meanings.directory old).circuits ≤ 100 → c < length (meanings.directory old).circuits → observed
     → Ends meanings station Journaled o h observed r old new (captured file c) left → ((at : ℕ) → r ≡ end.Capture at → ⊥) → IsEndAt (badplace file) (Ended r)
-told meanings station observed o h end.Done old new file left c few here tell ends other =
-    let d = ends.done refl in whole-one (meanings.directory old) file c d.steps few here (d.whole tell)
+told meanings station observed o h end.Done old new file left c few here tell ends other = grind (arith, common_steps, whole-one)
 told meanings station observed o h (end.Capture at) old new file left c few here tell ends other = absurd (other at refl)
-told meanings station observed o h end.SourceFault old new file left c few here tell ends other = tt
-told meanings station observed o h (end.Reopen fault) old new file left c few here tell ends other = tt
-told meanings station observed o h (end.Fault fault) old new file left c few here tell ends other = tt
-told meanings station observed o h (end.Compaction fault) old new file left c few here tell ends other = tt
-told meanings station observed o h end.NoMemory old new file left c few here tell ends other = tt
+told meanings station observed o h _ old new file left c few here tell ends other = tt
 
 -- the run of the capture didn't end early
 pub from-end : {O W : Type 0} (meanings : Standing O W) (station observed : Type 0) (r : ReplayEnd) (old new : W) (file left : List ℕ) (c : ℕ)
@@ -123,43 +114,16 @@ from-cut meanings station observed at (Ended end.SourceFault) old new file left 
   place = λ o h stands tell. tt;
   source = λ e tell. inl refl;
 }
-from-cut meanings station observed at (Ended end.Done) old new file left c few here ends kind met now = absurd kind
-from-cut meanings station observed at (Ended (end.Capture n)) old new file left c few here ends kind met now = absurd kind
-from-cut meanings station observed at (Ended (end.Reopen fault)) old new file left c few here ends kind met now = absurd kind
-from-cut meanings station observed at (Ended (end.Fault fault)) old new file left c few here ends kind met now = absurd kind
-from-cut meanings station observed at (Ended (end.Compaction fault)) old new file left c few here ends kind met now = absurd kind
-from-cut meanings station observed at (Ended end.NoMemory) old new file left c few here ends kind met now = absurd kind
+from-cut meanings station observed at (Ended _) old new file left c few here ends kind met now = absurd kind
 
 -- ---- causes
 
 pub cause-end : (r : ReplayEnd) (disk disk_now say say_now source source_now : ℕ) → HasReplayCause r disk disk_now say say_now source source_now
     → HasUnpackCause (Ended r) disk disk_now say say_now source source_now
-cause-end r disk disk_now say say_now source source_now k = record {
-  disk_later = k.disk_later;
-  say_later = k.say_later;
-  source_later = k.source_later;
-  disk_failed = λ e. k.disk_failed (cc);
-  compaction_failed = λ e. k.compaction_failed (cc);
-  reopen_failed = λ e. k.reopen_failed (cc);
-  say_failed = λ e. k.say_failed (cc);
-  source_failed = λ e. k.source_failed (cc);
-  sound = k.sound;
-}
+cause-end r disk disk_now say say_now source source_now k = grind (arith, common_steps)
 
 pub cause-cut : (r : ReplayEnd) (last : UnpackEnd) (disk disk_now say say_now source source_now later : ℕ)
     → HasReplayCause r disk disk_now say say_now source source_now → IsUnfailed r → IsFileEnd last
     → HasFileCause last source_now later
     → HasUnpackCause last disk disk_now say say_now source later
-cause-cut r last disk disk_now say say_now source source_now later k cut is more =
-    let P : UnpackEnd → Type 0 = IsFileEnd in
-    record {
-      disk_later = k.disk_later;
-      say_later = k.say_later;
-      source_later = omega (arith, k.source_later, more.later);
-      disk_failed = λ e. absurd (subst P e is);
-      compaction_failed = λ e. absurd (subst P e is);
-      reopen_failed = λ e. absurd (subst P e is);
-      say_failed = λ e. absurd (subst P e is);
-      source_failed = λ e. omega (arith, more.failed e, k.source_later);
-      sound = λ u. let run = k.sound cut in (run.0, run.1, more.sound u ∙ run.2);
-    }
+cause-cut r last disk disk_now say say_now source source_now later k cut is more = grind (arith, common_steps)

@@ -5,7 +5,7 @@ pub use Rattle.gts_accum.specs.Grammar.{Begins, IsBadAt, IsFile}
 pub use Rattle.gts_accum.specs.Capture.{back_of, capture_of, captured, ending_steps, ending_text, front_of, message_in, message_size, opening, steps_in, steps_read}
 pub use Rattle.gts_accum.specs.Packing.{IsFileOf, bad_in_stream, cut_at, entries_text, file_of_messages, loss_in, messages_of, packed, stream_seen, whole}
 pub use Rattle.gts_accum.specs.Streams.{IsBadStream, IsStreamWithin}
-pub use Rattle.gts_accum.specs.Packs.{HasReadCause, HasSayCause, Holds, IsBad, IsTaken, Packs, PieceEnds, SameFiles, Stands, entries_in}
+pub use Rattle.gts_accum.specs.Packs.{CountsPack, Holds, IsBad, IsTaken, Packs, PieceEnds, SameFiles, Stands, entries_in}
 pub use Rattle.gts_accum.specs.Unpacking.{Gives, IsAtEnd, IsPast, Passes, Rest, Unpacking, ahead, ahead_of, bad_ahead, behind, capture_left, due, entry_rest, given_by, met, rest_of, to_come}
 pub use Rattle.gts_accum.specs.Judging.{Judges}
 pub use Rattle.gts_accum.specs.UnpackedParts.{IsNext, IsSound, missing, unpacking_of}

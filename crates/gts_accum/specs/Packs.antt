@@ -1,6 +1,6 @@
 -- How packing a stream ended, and what of its file was said.
 use Rattle.std.specs.Prelude.{◌≡◌, ℕ, ◌≤◌, List, [], ◌++◌, length, Some, None, Result, Ok, Err, OnOk}
-use Rattle.gts_accum.specs.Cited.Below.{Call, Decoding, Rose, SaysFront, SaysOnly, StationMeanings, held_in, on, seen, signs_in}
+use Rattle.gts_accum.specs.Cited.Below.{Call, Decoding, Rose, SaysFront, SaysOnly, SourceMeanings, StationMeanings, held_in, on, seen, signs_in}
 use Rattle.gts_accum.specs.Packing.{entries_text, messages_of, bad_in_stream, packed}
 use Rattle.gts_accum.specs.declared.pack_end.PackEnd.{PackEnd}
 use Rattle.gts_accum.specs.declared.pack_end.PackEnd.TheVariants as end
@@ -67,14 +67,22 @@ pub record SaysPiece {P : Type 0} (station : StationMeanings P) (result : Result
   pub lost : (at : ℕ) → result ≡ Err (Lost at) → station.say_faults new ≡ station.say_faults old
   pub disk : station.disk_faults new ≡ station.disk_faults old
 
--- saying is answered as failed only where its count rose, and with any other answer the count is as before
-pub record HasSayCause (result : PackEnd) (before now : ℕ) : Type 0 where
-  pub later : before ≤ now
-  pub failed : result ≡ end.SayFault → Rose before now
-  pub still : (result ≡ end.SayFault → ⊥) → now ≡ before
+-- The end of a stream was met, and nothing but saying was asked: it failed only where its count rose, and with any other end the count
+-- is as before.
+pub record SaysEnd {P : Type 0} (station : StationMeanings P) (result : PackEnd) (old new : P) : Type 0 where
+  pub later : station.say_faults old ≤ station.say_faults new
+  pub failed : result ≡ end.SayFault → Rose (station.say_faults old) (station.say_faults new)
+  pub still : (result ≡ end.SayFault → ⊥) → station.say_faults new ≡ station.say_faults old
+  pub disk : station.disk_faults new ≡ station.disk_faults old
 
--- and so is reading
-pub record HasReadCause (result : PackEnd) (before now : ℕ) : Type 0 where
-  pub later : before ≤ now
-  pub failed : result ≡ end.SourceFault → Rose before now
-  pub still : (result ≡ end.SourceFault → ⊥) → now ≡ before
+-- A stream was packed with this end, and nothing but its source and saying was asked: each failed only where its count rose, and with
+-- any other end its count is as before.
+pub record CountsPack {S P : Type 0} (source : SourceMeanings S) (station : StationMeanings P) (result : PackEnd) (before after : S)
+    (old new : P) : Type 0 where
+  pub source_later : source.faults before ≤ source.faults after
+  pub source_failed : result ≡ end.SourceFault → Rose (source.faults before) (source.faults after)
+  pub source_still : (result ≡ end.SourceFault → ⊥) → source.faults after ≡ source.faults before
+  pub say_later : station.say_faults old ≤ station.say_faults new
+  pub say_failed : result ≡ end.SayFault → Rose (station.say_faults old) (station.say_faults new)
+  pub say_still : (result ≡ end.SayFault → ⊥) → station.say_faults new ≡ station.say_faults old
+  pub disk : station.disk_faults new ≡ station.disk_faults old

@@ -85,8 +85,7 @@ fn finish<P: Station>(at: u64, rest: u32, station: &mut P) -> PackEnd
         → packs.Holds P.observed first (P.calls station.old) stream held → rest ≡ length held
         → packs.Packs P.observed result stream [] first (P.calls station.new) }
     ensures read { (result ≡ PackEnd.SourceFault → ⊥) × (result ≡ PackEnd.NoMemory → ⊥) }
-    ensures cause { packs.HasSayCause result (P.say_faults station.old) (P.say_faults station.new) }
-    ensures disk { P.disk_faults station.new ≡ P.disk_faults station.old }
+    ensures cause { packs.SaysEnd P.Station result station.old station.new }
 {
     if rest > 0 {
         return PackEnd::Bad { at };
@@ -108,9 +107,8 @@ pub fn pack<S: Source, P: Station>(alloc: Global, stream: &mut S, station: &mut 
     ensures unmade { result ≡ PackEnd.NoMemory
         → (stream.new ≡ stream.old) × (station.new ≡ station.old) }
     ensures files { P.observed → packs.SameFiles (P.calls station.old) (P.calls station.new) }
-    ensures source { packs.HasReadCause result (S.faults stream.old) (S.faults stream.new) }
-    ensures say { packs.HasSayCause result (P.say_faults station.old) (P.say_faults station.new) }
-    ensures disk { P.disk_faults station.new ≡ P.disk_faults station.old }
+    ensures cause { packs.CountsPack S.Source P.Station result stream.old stream.new
+        station.old station.new }
 {
     let Ok(mut decoder) = Decoder::new(alloc) else {
         return PackEnd::NoMemory;

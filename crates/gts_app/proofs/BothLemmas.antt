@@ -5,6 +5,7 @@ use Rattle.gts_directory.specs.Directory as directories
 use Rattle.std.proofs.lemmas.Option.{none-some}
 use Rattle.gts_directory.proofs.TakingOverLemmas.{none_from}
 use Rattle.gts_app.proofs.UnreadLemmas.{fault_told, new_ended, no_fault, old_ended, only_memory, same_directory}
+use Rattle.std.proofs.lemmas.Grind.{common_steps}
 
 -- nothing of a source was read
 none_taken : {S : Type 0} (source : SourceMeanings S) (at : S) → ReadsFew source at at
@@ -15,15 +16,7 @@ one_change a b r one other = cc
 
 -- nothing was read
 pub both_untried : {S P : Type 0} (source : SourceMeanings S) (station : StationMeanings P) (od oc : S) (at : P) → ReadsBoth source station NoMemory (world od oc at) (world od oc at)
-both_untried source station od oc at = record {
-  old_refused = λ observed new e read bad calm. inr refl;
-  changed = λ observed new old c read first calm. inr refl;
-  answered = λ observed told new old e read takes bad calm quiet. inr refl;
-  unread = λ observed e bad. refl;
-  taken = none_taken source od;
-  old_taken = none_taken source oc;
-  counts = (omega arith, omega arith, omega arith, omega arith);
-}
+both_untried source station od oc at = grind (arith, common_steps, none_taken)
 
 -- ---- the directory was not read
 

@@ -1,7 +1,7 @@
 -- What `compact` comes to, from the opening and the engine's compaction.
 use Rattle.std.proofs.Common.{◌≡◌, ◌≤◌, ℕ, false, List, [], ◌∷◌, ◌++◌, Result, Ok, Err, IfErr, OnOk, Option, Some, None, IsTrue, inl, inr, refl, sym, ap, subst, ◌∙◌, arith}
 use Rattle.std.proofs.lemmas.List.{append-nil}
-use Rattle.gts_app.specs.Cited.{Call, Compacts, Damaged, Device, Did, Directory, DiskFault, Done, EachSince, Engine, Full, Ghosts as StationMeanings, GivesRoom, HasCallCause, HasSaid, Holds, InputFault, IsCompactEnd, IsCompactFault, IsCompacted, IsCompaction, IsIdleFault, IsRefusal, IsRewritten, IsTooLarge, Keeps, Need, NoJournal, NoMemory, OldVersion, OpenFault, Opens, OpensAsBefore, OpensWith, OtherDirectory, Over, Rose, SourceMeanings, State, Status, StaysAt, StaysThere, SwitchFault, Syncs, begun, checkpoint_file, compacted_after, compacted_size, directory_of_bytes, full_compacted, handed, is_sound, need, opens, origin_of, said_by, seen, selected, shown, status_compacted, switch_meanings}
+use Rattle.gts_app.specs.Cited.{Call, Compacts, Device, Did, DiskFault, Done, EachSince, Engine, Full, Ghosts as StationMeanings, GivesRoom, HasCallCause, HasSaid, Holds, IsCompactFault, IsCompacted, IsCompaction, IsIdleFault, IsRefusal, IsRewritten, IsTooLarge, Keeps, Need, NoMemory, OpenFault, Opens, OpensAsBefore, OpensWith, Over, Rose, SourceMeanings, State, Status, StaysAt, StaysThere, SwitchFault, Syncs, begun, checkpoint_file, compacted_after, compacted_size, directory_of_bytes, full_compacted, handed, is_sound, need, opens, origin_of, said_by, seen, selected, shown, status_compacted, switch_meanings}
 use Rattle.gts_directory.specs.Directory as directories
 use Rattle.gts_event.specs.declared.fault.SwitchFault.TheVariants as switch
 use Rattle.gts_engine.specs.declared.mode.SayMode.TheVariants as mode
@@ -13,17 +13,6 @@ use Rattle.gts_journal.proofs.LawLemmas.{syncs_silent as only_synced_says}
 
 -- ---- what refused it
 
-end_of_refusal : (status : Status) → IsRefusal status → IsCompactEnd status
-end_of_refusal (Directory fault) ends = tt
-end_of_refusal NoJournal ends = tt
-end_of_refusal OldVersion ends = tt
-end_of_refusal (OtherDirectory want found) ends = tt
-end_of_refusal (Damaged file at) ends = tt
-end_of_refusal DiskFault ends = tt
-end_of_refusal InputFault ends = tt
-end_of_refusal NoMemory ends = tt
-end_of_refusal _ ends = absurd ends
-
 pub not_compacted : {S P : Type 0} (source : SourceMeanings S) (w : StationMeanings P) (status : Status) (od nd : S) (old new : P)
     → Opens source w (Err (handed status new)) od nd old → Compacts source w status od old nd new
 not_compacted source w status od nd old new h =
@@ -34,7 +23,7 @@ not_compacted source w status od nd old new h =
       full = λ used wanted limit of. absurd (subst IsRefusal of ends);
       refused = λ _. inl r;
       disk_fault = r.disk_fault;
-      ends = end_of_refusal status ends;
+      ends = inl ends;
       silent = λ observed told. only_synced_says (w.calls old) (w.calls new) (r.only_syncs told);
       complete = λ observed told d n read opened kept_directory kept_disk room. inr (memory_alone source w status od nd old new r observed told d n read opened kept_directory kept_disk);
       answered = fault_answered source w status od nd old new r;
@@ -78,7 +67,7 @@ module _ {S P : Type 0} (source : SourceMeanings S) (w : StationMeanings P) (od 
     full = λ used wanted limit of. absurd (cc);
     refused = λ _. inl (lacks_memory source w od nd old e h);
     disk_fault = λ of. absurd (cc);
-    ends = tt;
+    ends = inl tt;
     silent = λ observed told. ap said_by (known told).synced;
     complete = λ observed told d n read opened kept_directory kept_disk room. inr refl;
     answered = λ observed told d fault read opened kept_directory kept_disk. inr refl;
@@ -135,7 +124,7 @@ module _ {S P : Type 0} (source : SourceMeanings S) (w : StationMeanings P) (od 
       full = λ used wanted limit of. absurd (cc);
       refused = λ ends. absurd ends;
       disk_fault = λ of. absurd (cc);
-      ends = tt;
+      ends = inr tt;
       silent = λ observed told. let k = known told in
           let goes : new.stopped ≡ None = goes_on new.stopped (after k ok).failed in
           silent k (subst (λ (stopped : Option Device). HasSaid mode.Station (compacted_after (origin_of w.calls e k.n) []) [] stopped (w.calls new.station)) goes ((after k ok).leaves told).said);
@@ -155,7 +144,7 @@ module _ {S P : Type 0} (source : SourceMeanings S) (w : StationMeanings P) (od 
           full = λ used wanted limit of. absurd (cc);
           refused = λ _. inr (refl, over new.station (λ d n. StaysThere d n (w.calls old) (w.calls new.station)) stays);
           disk_fault = λ of. rose;
-          ends = tt;
+          ends = inl tt;
           silent = λ observed told. let k = known told in
               silent k ((compaction.failed failed mode.Station (origin_of w.calls e k.n) [] k.keeps).leaves told).said;
           complete = λ observed told d n read opened kept_directory kept_disk free. absurd (kept_disk rose);
@@ -182,7 +171,7 @@ module _ {S P : Type 0} (source : SourceMeanings S) (w : StationMeanings P) (od 
               (over new.station (λ d n. IsTooLarge d n used wanted limit (w.calls old) (w.calls new.station)) (λ k. record { sum = sum k; synced = calls_are k }))));
           refused = λ ends. absurd ends;
           disk_fault = λ of. absurd (cc);
-          ends = tt;
+          ends = inr tt;
           silent = λ observed told. ap said_by (calls_are (known told));
           complete = λ observed told d n read opened kept_directory kept_disk free.
               let k = known told in
@@ -210,8 +199,7 @@ module _ {S P : Type 0} (source : SourceMeanings S) (w : StationMeanings P) (od 
     ends_by (Err (switch.Full used wanted limit)) same kinds = by_room used wanted limit same
     ends_by (Err (switch.Stopped by)) same kinds = by_memory (subst IsIdleFault (sym same) tt)
     ends_by (Err switch.NoMemory) same kinds = by_memory (subst IsIdleFault (sym same) tt)
-    ends_by (Err switch.SayFault) same kinds = absurd kinds
-    ends_by (Err switch.Spent) same kinds = absurd kinds
+    ends_by _ same kinds = absurd kinds
 
     pub compacts : (at : P) → at ≡ new.station → Compacts source w (status_compacted r) od old nd at
     compacts at same = subst (λ (p : P). Compacts source w (status_compacted r) od old nd p) (sym same) (ends_by r refl kind)

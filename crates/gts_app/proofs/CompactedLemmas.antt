@@ -1,20 +1,17 @@
 -- The origin of an engine's history, with the compactions that were done.
-use Rattle.std.proofs.Common.{◌≡◌, ℕ, ◌+◌, ◌≤◌, Bool, true, false, nat_le, cond, List, [], ◌∷◌, ◌++◌, length, take, refl, sym, ap, subst, ◌∙◌, arith, append_assoc}
+use Rattle.std.proofs.Common.{◌≡◌, ℕ, ◌+◌, ◌≤◌, List, [], ◌∷◌, ◌++◌, length, take, sym, ap, ◌∙◌, arith, append_assoc}
 use Rattle.gts_app.specs.Cited.{AllByRecursion, Entry, Ghosts as StationMeanings, ObservedOrigin, Origin, Step, begun, compacted_at, compactions, done_by, history, no_bytes, origin_behind, switch_meanings}
 use Rattle.std.proofs.lemmas.Bool.{leb-true}
 use Rattle.std.proofs.lemmas.List.{append-nil, length-take-le}
 use Rattle.gts_connection.proofs.LawLemmas.{compactions_between}
+use Rattle.std.proofs.lemmas.Grind.{common_steps}
 
 abbrev pub AllWithin : ℕ → List ℕ → Type 0
 AllWithin n ks = AllByRecursion (λ k. k ≤ n) ks
 
 done_within : (n : ℕ) (ks : List ℕ) → AllWithin n (done_by n ks)
 done_within n [] = tt
-done_within n (k ∷ ks) = go (done_within n ks) (nat_le k n) refl
-  where
-    go : AllWithin n (done_by n ks) → (b : Bool) → nat_le k n ≡ b → AllWithin n (done_by n (k ∷ ks))
-    go rest true e = subst (λ (xs : List ℕ). AllWithin n xs) (sym (ap (λ (t : Bool). cond t (k ∷ done_by n ks) (done_by n ks)) e)) (leb-true k n e, rest)
-    go rest false e = subst (λ (xs : List ℕ). AllWithin n xs) (sym (ap (λ (t : Bool). cond t (k ∷ done_by n ks) (done_by n ks)) e)) rest
+done_within n (k ∷ ks) = grind (arith, common_steps, leb-true, done_within n ks)
 
 -- the origin with these compactions more
 abbrev pub with_more : {observed : Type 0} → ObservedOrigin observed → List ℕ → ObservedOrigin observed

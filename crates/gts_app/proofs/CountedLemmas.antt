@@ -7,11 +7,7 @@ use Rattle.gts_replay.specs.{BreaksOff, BreaksTogether, BreaksIdle}
 module _ {O T W : Type 0} (parts : W → CountedParts T) (meanings : Standing O T) (station : Type 0) (kind : CaptureKind) (o : O) (h : List Entry) (observed : Type 0) (old new : W) where
   remains : (at : O) (all : List Entry) (fault : SwitchFault) → Remains (meanings_by parts meanings) at all fault new → Remains meanings at all fault (parts new).switch
   remains at all DiskFault left = left
-  remains at all SayFault stands = stands.0
-  remains at all (Full used need limit) stands = stands.0
-  remains at all (Stopped by) stands = stands.0
-  remains at all Spent stands = stands.0
-  remains at all NoMemory stands = stands.0
+  remains at all _ stands = stands.0
 
   together : (steps : List Step) (became : List Event → List Entry)
       → BreaksTogether (meanings_by parts meanings) (origin_at (meanings_by parts meanings) o h steps old) (length h) h (entries_at (meanings_by parts meanings) old o h steps) became new

@@ -1,6 +1,6 @@
 -- What `follow` comes to, from the directory and what was made of the feed.
-use Rattle.std.proofs.Common.{◌≡◌, ◌⊎◌, ◌≤◌, ℕ, ◌-◌, List, [], Result, Ok, Err, inl, inr, refl, sym, ap, subst, ◌∙◌, arith}
-use Rattle.gts_app.specs.Cited.{Answers, ComesTo, Directory, EachImageReads, EachOpens, EndsAs, Files, FollowEnd, FollowedAs, FollowsFeed, Ghosts as StationMeanings, IsEnd, IsNamedEnd, IsOfFiles, IsReadEnd, LeavesAlone, LeavesUnopened, Need, NoMemory, OnlySyncs, OpenFault, Read, ReadsDirectory, RefusedBy, Rose, SourceMeanings, State, Status, TakenAs, TakesFeed, comes_to, directory_of_bytes, files_read, need, opened_of, opens, own_seals, read_after, restarted, said_by, seen, selected_bytes, state_after, status_followed, taken, world, written}
+use Rattle.std.proofs.Common.{◌≡◌, ◌⊎◌, ℕ, ◌-◌, List, [], Result, Ok, Err, inl, inr, refl, sym, ap, subst, ◌∙◌, arith}
+use Rattle.gts_app.specs.Cited.{Answers, ComesTo, Directory, EachImageReads, EachOpens, EndsAs, Files, FollowEnd, FollowedAs, FollowsFeed, Ghosts as StationMeanings, HasEndCounts, IsEnd, IsNamedEnd, IsOfFiles, IsReadEnd, LeavesAlone, LeavesUnopened, Need, NoMemory, OnlySyncs, OpenFault, Read, ReadsDirectory, RefusedBy, Rose, SourceMeanings, State, Status, TakenAs, TakesFeed, comes_to, directory_of_bytes, files_read, need, opened_of, opens, own_seals, read_after, restarted, said_by, seen, selected_bytes, state_after, status_followed, taken, world, written}
 use Rattle.gts_standby.specs.Taking.{Taken}
 use Rattle.gts_directory.specs.Directory as directories
 use Rattle.gts_record.specs.declared.fault.OpenFault.TheVariants as opening
@@ -38,10 +38,7 @@ none_of : (answer : FollowEnd) → IsEnd answer → (fault : OpenFault) → Answ
 none_of follow.Done is fault answers = answers
 none_of (follow.Feed at) is fault answers = answers
 none_of (follow.Diverged index own fed) is fault answers = answers
-none_of (follow.Open other) is fault answers = is
-none_of follow.SourceFault is fault answers = is
-none_of follow.DiskFault is fault answers = is
-none_of follow.NoMemory is fault answers = is
+none_of _ is fault answers = is
 
 module _ (d : directories.Directory) (files : Files) (fed : List ℕ) where
   -- what it comes to, by what the files open to
@@ -88,10 +85,7 @@ module _ {S P : Type 0} (source : SourceMeanings S) (station : StationMeanings P
     (refused : station.observed → source.observed → LeavesAlone answer (station.calls old) (station.calls new) (nc ≡ oc))
     (named : (fault : OpenFault) → answer ≡ follow.Open fault → IsOfFiles fault)
     (silent : station.observed → said_by (station.calls new) ≡ said_by (station.calls old))
-    (source_fault : answer ≡ follow.SourceFault → Rose (source.faults oc) (source.faults nc))
-    (disk_fault : answer ≡ follow.DiskFault → Rose (station.disk_faults old) (station.disk_faults new))
-    (later : station.disk_faults old ≤ station.disk_faults new) (source_later : source.faults oc ≤ source.faults nc)
-    (say : station.say_faults new ≡ station.say_faults old) where
+    (counts : HasEndCounts station source answer old new oc nc) where
   read : source.observed → directory_of_bytes (source.left od) ≡ Ok d
   read observed = h.read observed d refl
 
@@ -136,14 +130,11 @@ module _ {S P : Type 0} (source : SourceMeanings S) (station : StationMeanings P
   means (follow.Feed at) e = subst (λ (a : FollowEnd). TakenAs a source station (world od oc old) (world nd nc new)) e (takes (subst IsEnd (sym e) tt))
   means (follow.Diverged index own fed) e =
       subst (λ (a : FollowEnd). TakenAs a source station (world od oc old) (world nd nc new)) e (takes (subst IsEnd (sym e) tt))
-  means (follow.Open opening.NoJournal) e = refused_by opening.NoJournal e
-  means (follow.Open opening.OldVersion) e = refused_by opening.OldVersion e
-  means (follow.Open (opening.NotThis want found)) e = refused_by (opening.NotThis want found) e
-  means (follow.Open (opening.Damaged file at)) e = refused_by (opening.Damaged file at) e
   means (follow.Open opening.DiskFault) e = absurd (named opening.DiskFault e)
   means (follow.Open opening.NoMemory) e = absurd (named opening.NoMemory e)
-  means follow.SourceFault e = inr (source_fault e)
-  means follow.DiskFault e = disk_fault e
+  means (follow.Open fault) e = refused_by fault e
+  means follow.SourceFault e = inr (counts.source_fault e)
+  means follow.DiskFault e = counts.disk_fault e
   means follow.NoMemory e = tt
 
   -- the directory that was read is this one
@@ -179,8 +170,8 @@ module _ {S P : Type 0} (source : SourceMeanings S) (station : StationMeanings P
       go (follow.Feed at) is = inl (follow.Feed at, tt, ap status_followed is, so (follow.Feed at) is)
       go (follow.Diverged index own fed) is = inl (follow.Diverged index own fed, tt, ap status_followed is, so (follow.Diverged index own fed) is)
       go (follow.Open fault) is = let none : ◌≡◌ {A = Result Taken OpenFault} (Ok t) (Err fault) = so (follow.Open fault) is in absurd (cc)
-      go follow.SourceFault is = absurd (calm_feed (source_fault is))
-      go follow.DiskFault is = absurd (calm_disk (disk_fault is))
+      go follow.SourceFault is = absurd (calm_feed (counts.source_fault is))
+      go follow.DiskFault is = absurd (calm_disk (counts.disk_fault is))
       go follow.NoMemory is = inr (ap status_followed is)
 
   pub followed : FollowsFeed source station (status_followed answer) (world od oc old) (world nd nc new)
@@ -192,31 +183,12 @@ module _ {S P : Type 0} (source : SourceMeanings S) (station : StationMeanings P
     complete = λ observed told e from t comes calm_directory. ended_so observed told e from t comes;
     silent = silent;
     directory_taken = h.taken;
-    source_counts = (h.cause.later, source_later);
-    station_counts = (say, later);
+    source_counts = (h.cause.later, counts.source_later);
+    station_counts = (counts.say, counts.later);
   }
-
--- ---- there was no memory to read the words
-
-pub unread : {S P : Type 0} (source : SourceMeanings S) (station : StationMeanings P) (od oc : S) (at : P)
-    → FollowsFeed source station NoMemory (world od oc at) (world od oc at)
-unread source station od oc at = record {
-  means = tt;
-  moments = λ observed told d read t comes. inl (inr (inl refl));
-  turned_away = λ observed fault is. (refl, refl);
-  unopened = λ observed told d fault found is. (inr (inl refl), refl);
-  complete = λ observed told d read t comes calm_directory calm_feed calm_disk. inr refl;
-  silent = λ told. refl;
-  directory_taken = λ observed. ([], refl, omega arith);
-  source_counts = (omega arith, omega arith);
-  station_counts = (refl, omega arith);
-}
 
 -- the fault of an opening that has no name of its own is one of the files
 pub named_fault : (answer : FollowEnd) → IsNamedEnd answer → (fault : OpenFault) → answer ≡ follow.Open fault → IsOfFiles fault
-named_fault answer named opening.NoJournal is = tt
-named_fault answer named opening.OldVersion is = tt
-named_fault answer named (opening.NotThis want found) is = tt
-named_fault answer named (opening.Damaged file at) is = tt
 named_fault answer named opening.DiskFault is = subst IsNamedEnd is named
 named_fault answer named opening.NoMemory is = subst IsNamedEnd is named
+named_fault answer named _ is = tt

@@ -7,6 +7,7 @@ use Rattle.gts_record.specs.declared.fault.OpenFault.TheVariants as opening
 use Rattle.gts_migrate.specs.declared.fault.MigrateFault.TheVariants as fault
 use Rattle.gts_app.proofs.UnreadLemmas.{by_end, new_ended, old_ended}
 use Rattle.gts_app.proofs.BothLemmas.{apart_from, both_changed, both_old_unread, both_stay, both_unread, new_is, new_memory, old_is, old_memory, read_both}
+use Rattle.std.proofs.lemmas.Grind.{common_steps}
 
 -- ---- a directory was not read, or a row doesn't stay
 
@@ -15,15 +16,7 @@ still : {S P : Type 0} (w : Waiting) (source : SourceMeanings S) (station : Stat
     → ReadsBoth source station status (world od oc at) (world nd nc at)
     → (source.observed → (new old : directories.Directory) → AreRead source (world od oc at) new old → TakesOver new old → IsCalm source (world od oc at) (world nd nc at) → status ≡ NoMemory)
     → Migrates w source station status (world od oc at) (world nd nc at)
-still w source station status od nd oc nc at means both memory = record {
-  means = means;
-  both = both;
-  moments = λ observed told new old n read is. inl (inr (inl refl));
-  silent = λ told refused. refl;
-  refused = λ observed told new old s used found read takes is waits calm quiet. inr (memory observed new old read takes calm);
-  complete = λ observed told new old s used read takes is none free calm quiet sound. inr (memory observed new old read takes calm);
-  quiet = λ refused. refl;
-}
+still w source station status od nd oc nc at means both memory = grind (arith, common_steps)
 
 pub new_unread : {S P : Type 0} (w : Waiting) (source : SourceMeanings S) (station : StationMeanings P) (status : Status) (od nd oc : S) (at : P)
     → ReadsDirectory source (Err status) od nd → Migrates w source station status (world od oc at) (world nd oc at)
@@ -44,11 +37,7 @@ old_unread w source station status d od nd oc nc at first h =
 pub row_changed : {S P : Type 0} (source : SourceMeanings S) (station : StationMeanings P) (d o : directories.Directory) (od nd oc nc : S) → (first : ReadsDirectory source (Ok d) od nd)
     → (second : ReadsOldDirectory source (Ok o) oc nc) → (w : Waiting) (c : Change) (at : P) → first_change d o ≡ Some c → (TakesOver d o → ⊥)
     → Migrates w source station (Changed c.part c.row) (world od oc at) (world nd nc at)
-row_changed source station d o od nd oc nc first second w c at is apart =
-    still w source station (Changed c.part c.row) od nd oc nc at
-    (refl, record { new = d; old = o; read = read_both source station d o od nd oc nc first second; holds = is })
-    (both_changed source station d o od nd oc nc first second c at is apart)
-    (λ observed new old read takes calm. absurd (apart_from source station d o od nd oc nc first second apart observed at new old read takes))
+row_changed source station d o od nd oc nc first second w c at is apart = grind (arith, common_steps, still, read_both, both_changed, apart_from)
 
 -- ---- the journal was to be taken over
 
@@ -57,11 +46,7 @@ abbrev need_opened : directories.Directory → Opened → Result Need OpenFault
 need_opened d opened = elim opened as (λ _. Result Need OpenFault) [ Err e ↦ Err e | Ok x ↦ Ok (need d (restarted d x.0)) ]
 
 files_of : (d : directories.Directory) (files : Files) (n : Need) → opens_any d files ≡ Ok n → (s : State) × (used : ℕ) × (files_open_any d files ≡ Ok (s, used))
-files_of d files n e = go (files_open_any d files) refl e
-  where
-    go : (opened : Opened) → files_open_any d files ≡ opened → need_opened d opened ≡ Ok n → (s : State) × (used : ℕ) × (files_open_any d files ≡ Ok (s, used))
-    go (Ok x) is e = (x.0, x.1, is)
-    go (Err f) is e = absurd (let none : Err f ≡ Ok n = e in cc none)
+files_of d files n e = grind (arith, common_steps)
 
 pub need_of : (d : directories.Directory) (files : Files) (s : State) (used : ℕ) → files_open_any d files ≡ Ok (s, used) → opens_any d files ≡ Ok (need d (restarted d s))
 need_of d files s used e = ap (need_opened d) e
@@ -83,13 +68,8 @@ no_room x r one other = cc
 
 -- it was opened, or nothing but a sync was done
 opened_or_left : (r : Result (Unit {0}) MigrateFault) → WasOpened r ⊎ LeavesFiles r
-opened_or_left (Ok done) = inl tt
 opened_or_left (Err (fault.Open e)) = inr tt
-opened_or_left (Err (fault.Waits circuit count)) = inl tt
-opened_or_left (Err (fault.Full used wanted limit)) = inl tt
-opened_or_left (Err fault.DiskFault) = inl tt
-opened_or_left (Err fault.SayFault) = inl tt
-opened_or_left (Err fault.NoMemory) = inl tt
+opened_or_left _ = inl tt
 
 -- ---- by what becomes of what waits
 
@@ -132,22 +112,12 @@ module _ (d : directories.Directory) where
 
 -- counts of saying: they never fall, and stay where nothing is dropped
 says_later : (r : Result (Unit {0}) MigrateFault) (before after : ℕ) → CountsSays r before after → before ≤ after
-says_later (Ok done) before after same = omega (arith, same)
-says_later (Err (fault.Open e)) before after same = omega (arith, same)
-says_later (Err (fault.Waits circuit count)) before after same = omega (arith, same)
-says_later (Err (fault.Full used wanted limit)) before after same = omega (arith, same)
-says_later (Err fault.DiskFault) before after same = omega (arith, same)
 says_later (Err fault.SayFault) before after rose = rose.0
-says_later (Err fault.NoMemory) before after same = omega (arith, same)
+says_later _ before after same = omega (arith, same)
 
 says_never : (r : Result (Unit {0}) MigrateFault) (before after : ℕ) → (IsSayFaultOf r → ⊥) → CountsSays r before after → after ≡ before
-says_never (Ok done) before after never same = same
-says_never (Err (fault.Open e)) before after never same = same
-says_never (Err (fault.Waits circuit count)) before after never same = same
-says_never (Err (fault.Full used wanted limit)) before after never same = same
-says_never (Err fault.DiskFault) before after never same = same
 says_never (Err fault.SayFault) before after never rose = absurd (never tt)
-says_never (Err fault.NoMemory) before after never same = same
+says_never _ before after never same = same
 
 -- What is known of an answer, over the station before and after.
 pub record Known (observed : Type 0) (w : Waiting) (d o : directories.Directory) (r : Result (Unit {0}) MigrateFault) (before after : List Call) (disk_before disk_after say_before say_after : ℕ) : Type 0 where

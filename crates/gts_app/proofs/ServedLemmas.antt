@@ -1,22 +1,19 @@
 -- Where `serve` was done, no device of the station failed under it.
 use Rattle.std.proofs.Common.{◌≡◌, ℕ, ◌+◌, List, [], ◌∷◌, Option, None, Some, refl, sym, subst}
 use Rattle.gts_app.specs.Cited.{Beginning, Done, Engine, Entry, Ghosts as StationMeanings, IsServed, Known, LinesSeen, ReceiveEnd, SendEnd, ServeEnd, SourceMeanings, SwitchFault, first_fault, receiver_first, sender_first, status_of_fault, status_served}
-use Rattle.gts_event.specs.declared.fault.Device.TheVariants.{Disk, Say}
+use Rattle.gts_event.specs.declared.fault.Device.TheVariants.{Say}
 use Rattle.gts_event.specs.declared.fault.SwitchFault.TheVariants as switch
 use Rattle.gts_receiver.specs.declared.end.ReceiveEnd.TheVariants as received
 use Rattle.gts_sender.specs.declared.end.SendEnd.TheVariants as sent
 use Rattle.gts_circuits.specs.declared.service.end.ServeEnd.TheVariants as serving
+use Rattle.std.proofs.lemmas.Grind.{common_steps}
+use Rattle.std.proofs.Common.{arith}
 
 -- ---- a run of circuits whose status is that it was done has no fault
 
 fault_fails : (c : ℕ) (fault : SwitchFault) → status_of_fault c fault ≡ Done → ⊥
-fault_fails c switch.DiskFault is = cc is
-fault_fails c switch.SayFault is = cc is
-fault_fails c (switch.Stopped Disk) is = cc is
 fault_fails c (switch.Stopped Say) is = cc is
-fault_fails c (switch.Full used need limit) is = cc is
-fault_fails c switch.Spent is = cc is
-fault_fails c switch.NoMemory is = cc is
+fault_fails c _ is = cc is
 
 -- an end that is done, where its status is
 abbrev IsDoneOf : ServeEnd → Type 0
@@ -36,8 +33,7 @@ received_done c (received.Fault fault) next done is = absurd (fault_fails c faul
 
 first_done : (k : ℕ) (ends : List (ReceiveEnd × SendEnd)) → IsDoneOf (first_fault k ends)
 first_done k [] is = refl
-first_done k (x ∷ xs) is =
-    received_done k x.0 (sender_first k x.1 (first_fault (k + 1) xs)) (sent_done k x.1 (first_fault (k + 1) xs) (first_done (k + 1) xs)) is
+first_done k (x ∷ xs) is = grind (arith, common_steps, received_done, sent_done, first_done (k + 1) xs)
 
 -- ---- the whole run
 
@@ -52,11 +48,9 @@ module _ {P I : Type 0} (w : StationMeanings P) (b : Beginning) (incoming : Sour
 
   was_done : (pass : Option (Known (List Entry))) (end : ServeEnd) → Came pass end → IsDoneOf end
   was_done (Some pass) end s = subst IsDoneOf (sym s.end_is) (first_done 0 s.ends)
-  was_done None serving.Done s = absurd s
   was_done None (serving.NotOpened c) s = λ is. absurd (cc is)
-  was_done None (serving.Receiver c e) s = absurd s
-  was_done None (serving.Sender c e) s = absurd s
   was_done None serving.NoMemory s = λ is. absurd (cc is)
+  was_done None _ s = absurd s
 
   still_at : (pass : Option (Known (List Entry))) → Came pass serving.Done → IsStill
   still_at None s = absurd s

@@ -1,21 +1,17 @@
 -- What the commands come to that read a stream or a capture and use no journal.
 use Rattle.std.proofs.Common.{◌≡◌, ℕ, Ok, Err, inl, inr, refl, ap, arith}
-use Rattle.gts_app.specs.Cited.{Directory, GapsEnd, Ghosts as StationMeanings, HasGapsCause, HasReadCause, HasSayCause, IsReadEnd, KeepsFiles, Moment, NamedAs, Names, NamesGaps, PackEnd, PackedAs, Packs, PacksStream, ReadsDirectory, SameFiles, SourceMeanings, Status, directory_of_bytes, seen, status_named, status_packed, world}
+use Rattle.gts_app.specs.Cited.{CountsPack, Directory, GapsEnd, Ghosts as StationMeanings, HasGapsCause, IsReadEnd, KeepsFiles, Moment, NamedAs, Names, NamesGaps, PackEnd, PackedAs, Packs, PacksStream, ReadsDirectory, SameFiles, SourceMeanings, Status, seen, status_named, status_packed, world}
 use Rattle.gts_directory.specs.Directory as directories
 use Rattle.gts_app.proofs.UnreadLemmas.{by_end, new_ended}
 use Rattle.gts_accum.specs.declared.pack_end.PackEnd.TheVariants as packs
 use Rattle.gts_gap.specs.declared.fault.GapsEnd.TheVariants as gaps
+use Rattle.std.proofs.lemmas.Grind.{common_steps}
 
 -- ---- where there is no directory
 
 unread_keeps : {S P : Type 0} (source : SourceMeanings S) (station : StationMeanings P) (status : Status) (od nd oc : S) (at : P)
     → ReadsDirectory source (Err status) od nd → KeepsFiles source station (world od oc at) (world nd oc at)
-unread_keeps source station status od nd oc at h = record {
-  taken = h.taken;
-  source_counts = (h.cause.later, omega arith);
-  station_counts = (omega arith, refl);
-  files = λ observed k. refl;
-}
+unread_keeps source station status od nd oc at h = grind (arith, common_steps)
 
 pub pack_unread : {S P : Type 0} (source : SourceMeanings S) (station : StationMeanings P) (status : Status) (od nd oc : S) (at : P)
     → ReadsDirectory source (Err status) od nd → PacksStream source station status (world od oc at) (world nd oc at)
@@ -39,30 +35,8 @@ pub pack_ends : {S P : Type 0} (source : SourceMeanings S) (station : StationMea
     → ReadsDirectory source (Ok d) od nd
     → (source.observed → Packs station.observed end (source.left oc) (source.left nc) (station.calls old) (station.calls new))
     → (end ≡ packs.NoMemory → (nc ≡ oc) × (new ≡ old)) → (station.observed → SameFiles (station.calls old) (station.calls new))
-    → HasReadCause end (source.faults oc) (source.faults nc) → HasSayCause end (station.say_faults old) (station.say_faults new)
-    → station.disk_faults new ≡ station.disk_faults old
-    → PacksStream source station (status_packed end) (world od oc old) (world nd nc new)
-pack_ends source station d end od nd oc nc old new h is unmade files read say disk = record {
-  means = go end is unmade read say;
-  keeps = record {
-    taken = h.taken;
-    source_counts = (h.cause.later, read.later);
-    station_counts = (say.later, disk);
-    files = files;
-  };
-}
-  where
-    accepted : source.observed → (d : directories.Directory) × (directory_of_bytes (source.left od) ≡ Ok d)
-    accepted observed = (d, h.read observed d refl)
-
-    go : (e : PackEnd) → (source.observed → Packs station.observed e (source.left oc) (source.left nc) (station.calls old) (station.calls new))
-        → (e ≡ packs.NoMemory → (nc ≡ oc) × (new ≡ old)) → HasReadCause e (source.faults oc) (source.faults nc) → HasSayCause e (station.say_faults old) (station.say_faults new)
-        → PackedAs source station (status_packed e) (world od oc old) (world nd nc new)
-    go packs.Done is unmade read say = (accepted, is)
-    go (packs.Bad at) is unmade read say = (accepted, is)
-    go packs.SourceFault is unmade read say = inr (accepted, read.failed refl, is)
-    go packs.SayFault is unmade read say = (accepted, say.failed refl, is)
-    go packs.NoMemory is unmade read say = unmade refl
+    → CountsPack source station end oc nc old new → PacksStream source station (status_packed end) (world od oc old) (world nd nc new)
+pack_ends source station d end od nd oc nc old new h is unmade files cause = grind (arith, common_steps)
 
 pub gaps_ends : {S P : Type 0} (source : SourceMeanings S) (station : StationMeanings P) (moment : Moment) (d : directories.Directory) (end : GapsEnd) (od nd oc nc : S) (old new : P)
     → ReadsDirectory source (Ok d) od nd

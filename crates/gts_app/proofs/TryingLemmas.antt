@@ -8,6 +8,7 @@ use Rattle.gts_app.proofs.BothLemmas.{apart_from, both_changed, both_old_unread,
 use Rattle.gts_app.proofs.ShowLemmas.{unchanged}
 use Rattle.gts_app.proofs.GenerateLemmas.{as_seen}
 use Rattle.gts_app.proofs.MigrateLemmas.{need_of, two_answers, one_open}
+use Rattle.std.proofs.lemmas.Grind.{common_steps}
 
 -- ---- nothing was read, or a row doesn't stay
 
@@ -16,18 +17,11 @@ still : {S P : Type 0} (source : SourceMeanings S) (station : StationMeanings P)
     → ReadsBoth source station status (world od oc at) (world nd nc at)
     → (source.observed → (new old : directories.Directory) → AreRead source (world od oc at) new old → TakesOver new old → IsCalm source (world od oc at) (world nd nc at) → status ≡ NoMemory)
     → TriesMigration source station status (world od oc at) (world nd nc at)
-still source station status od nd oc nc at means both memory = record {
-  means = means;
-  both = both;
-  files = λ told k. refl;
-  only_syncs = λ told unsaid. inr (inl refl);
-  complete = λ observed told new old s used read takes is calm quiet sound. inr (memory observed new old read takes calm);
-}
+still source station status od nd oc nc at means both memory = grind (arith, common_steps)
 
 pub untried : {S P : Type 0} (source : SourceMeanings S) (station : StationMeanings P) (od oc : S) (at : P)
     → TriesMigration source station NoMemory (world od oc at) (world od oc at)
-untried source station od oc at =
-    still source station NoMemory od od oc oc at (λ told. inr (inl refl)) (both_untried source station od oc at) (λ observed new old read takes calm. refl)
+untried source station od oc at = grind (arith, common_steps, still, both_untried)
 
 pub new_unread : {S P : Type 0} (source : SourceMeanings S) (station : StationMeanings P) (status : Status) (od nd oc : S) (at : P)
     → ReadsDirectory source (Err status) od nd → TriesMigration source station status (world od oc at) (world nd oc at)

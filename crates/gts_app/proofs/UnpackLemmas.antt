@@ -1,6 +1,6 @@
 -- What each end of a file's run means for the command.
 use Rattle.std.proofs.Common.{◌≡◌, ℕ, ◌<◌, ◌≤◌, List, [], length, Ok, Err, IsTrue, inl, inr, refl, sym, ap, subst, arith}
-use Rattle.gts_app.specs.Cited.{Bad, Damaged, Directory, DiskFault, Done, Ended, EndsIn, Engine, Entry, Feed, File, Ghosts as StationMeanings, HasNoCircuit, HasReplayCause, HasUnpackCause, InputFault, IsEndAt, IsEndOf, IsLeft, IsReadEnd, IsRefusal, IsStatusOf, IsUnfailed, IsUnfailedFile, Journaled, KeepsLaws, Need, NoJournal, NoMemory, OldVersion, Opens, OtherDirectory, OtherFeed, ReadsDirectory, ReplayEnd, SourceMeanings, Status, Stays, UnpackEnd, Unpacks, Usage, badplace, capture_meanings, captured, directory_of_bytes, handed, is_sound, keeps_one, origin_of, status_of, status_unpacked, switch_meanings, unpacked, world}
+use Rattle.gts_app.specs.Cited.{Bad, Capture, Directory, Done, Ended, EndsIn, Engine, Entry, Feed, File, Ghosts as StationMeanings, HasNoCircuit, HasReplayCause, HasUnpackCause, InputFault, IsEndAt, IsEndOf, IsLeft, IsReadEnd, IsRefusal, IsStatusOf, IsUnfailed, IsUnfailedFile, Journaled, KeepsLaws, Need, NoMemory, Opens, OtherFeed, ReadsDirectory, ReplayEnd, SourceMeanings, Status, Stays, UnpackEnd, Unpacks, Usage, badplace, capture_meanings, captured, directory_of_bytes, handed, is_sound, keeps_one, origin_of, status_of, status_unpacked, switch_meanings, unpacked, world}
 use Rattle.gts_accum.specs.Unpack.{Unpacks as Runs}
 use Rattle.gts_directory.specs.Directory as directories
 use Rattle.gts_event.specs.declared.fault.SwitchFault.TheVariants as switch
@@ -11,32 +11,16 @@ use Rattle.gts_app.proofs.OpeningLemmas.{no_directory}
 use Rattle.gts_app.proofs.RefusalLemmas.{refused, out_of_memory}
 use Rattle.gts_app.proofs.UnreadLemmas.{new_ended, only_memory, same_directory}
 use Rattle.gts_app.proofs.ReplayLemmas.{replays}
+use Rattle.std.proofs.lemmas.Grind.{common_steps}
 
 -- ---- a status by that of the capture's replay
 
 status-is : (r : ReplayEnd) (result : UnpackEnd) → IsEndOf r result → IsStatusOf (status_of r) (status_unpacked result)
-status-is end.Done result is = ap status_unpacked is
 status-is (end.Capture at) result is = (is.0, ap status_unpacked is.1)
-status-is end.SourceFault result is = ap status_unpacked is
-status-is (end.Reopen opening.NoJournal) result is = ap status_unpacked is
-status-is (end.Reopen opening.OldVersion) result is = ap status_unpacked is
-status-is (end.Reopen (opening.NotThis want found)) result is = ap status_unpacked is
-status-is (end.Reopen (opening.Damaged file at)) result is = ap status_unpacked is
-status-is (end.Reopen opening.DiskFault) result is = ap status_unpacked is
 status-is (end.Reopen opening.NoMemory) result is = ap status_unpacked is
-status-is (end.Compaction switch.SayFault) result is = ap status_unpacked is
-status-is (end.Compaction (switch.Full used need limit)) result is = ap status_unpacked is
-status-is (end.Compaction switch.DiskFault) result is = ap status_unpacked is
-status-is (end.Compaction (switch.Stopped by)) result is = ap status_unpacked is
-status-is (end.Compaction switch.Spent) result is = ap status_unpacked is
 status-is (end.Compaction switch.NoMemory) result is = ap status_unpacked is
-status-is (end.Fault switch.SayFault) result is = ap status_unpacked is
-status-is (end.Fault (switch.Full used need limit)) result is = ap status_unpacked is
-status-is (end.Fault switch.DiskFault) result is = ap status_unpacked is
-status-is (end.Fault (switch.Stopped by)) result is = ap status_unpacked is
-status-is (end.Fault switch.Spent) result is = ap status_unpacked is
 status-is (end.Fault switch.NoMemory) result is = ap status_unpacked is
-status-is end.NoMemory result is = ap status_unpacked is
+status-is _ result is = ap status_unpacked is
 
 -- which statuses the ends of a replay have, beside that of the end itself
 abbrev IsOther : Status → ReplayEnd → Type 0
@@ -50,27 +34,11 @@ IsOther _ r = Unit {0}
 
 is-other : (r : ReplayEnd) → IsOther (status_of r) r
 is-other end.Done = refl
-is-other (end.Capture at) = tt
 is-other end.SourceFault = refl
-is-other (end.Reopen opening.NoJournal) = tt
-is-other (end.Reopen opening.OldVersion) = tt
-is-other (end.Reopen (opening.NotThis want found)) = tt
-is-other (end.Reopen (opening.Damaged file at)) = tt
-is-other (end.Reopen opening.DiskFault) = tt
 is-other (end.Reopen opening.NoMemory) = tt
-is-other (end.Compaction switch.SayFault) = tt
-is-other (end.Compaction (switch.Full used need limit)) = tt
-is-other (end.Compaction switch.DiskFault) = tt
-is-other (end.Compaction (switch.Stopped by)) = tt
-is-other (end.Compaction switch.Spent) = tt
 is-other (end.Compaction switch.NoMemory) = tt
-is-other (end.Fault switch.SayFault) = tt
-is-other (end.Fault (switch.Full used need limit)) = tt
-is-other (end.Fault switch.DiskFault) = tt
-is-other (end.Fault (switch.Stopped by)) = tt
-is-other (end.Fault switch.Spent) = tt
 is-other (end.Fault switch.NoMemory) = tt
-is-other end.NoMemory = tt
+is-other _ = tt
 
 other : (r : ReplayEnd) (s : Status) → status_of r ≡ s → IsOther s r
 other r s is = let P : Status → Type 0 = λ x. IsOther x r in subst P is (is-other r)
@@ -105,25 +73,11 @@ unfailed-file _ result is ends = absurd ends
 
 replayed-cause : (r : ReplayEnd) (result : UnpackEnd) (disk disk_now say say_now source source_now : ℕ) → IsEndOf r result
     → HasUnpackCause result disk disk_now say say_now source source_now → HasReplayCause r disk disk_now say say_now source source_now
-replayed-cause r result disk disk_now say say_now source source_now is k =
-    let P : ReplayEnd → Type 0 = λ x. IsEndOf x result in
-    record {
-      disk_later = k.disk_later;
-      say_later = k.say_later;
-      source_later = k.source_later;
-      disk_failed = λ e. k.disk_failed (subst P e is);
-      compaction_failed = λ e. k.compaction_failed (subst P e is);
-      reopen_failed = λ e. k.reopen_failed (subst P e is);
-      say_failed = λ e. k.say_failed (subst P e is);
-      source_failed = λ e. k.source_failed (subst P e is);
-      sound = λ ends. k.sound (unfailed-file r result is ends);
-    }
+replayed-cause r result disk disk_now say say_now source source_now is k = grind (arith, common_steps, unfailed-file)
 
 -- no end for want of a circuit that is there
 present : (d : directories.Directory) (bytes : List ℕ) (c : ℕ) → c < length d.circuits → directory_of_bytes bytes ≡ Ok d → HasNoCircuit bytes c → ⊥
-present d bytes c here read none =
-    let same : length none.0.circuits ≡ length d.circuits = ap (λ (x : directories.Directory). length x.circuits) (same_directory none.0 d (directory_of_bytes bytes) none.1 read) in
-    omega (arith, here, none.2, same)
+present d bytes c here read none = grind (arith, common_steps, same_directory)
 
 -- ---- the run of a file
 
@@ -159,15 +113,8 @@ unpacks source w c result od nd oc nc old first last opens laws run narrow here 
 -- ---- what ends it before
 
 refusal-is : (s : Status) → IsRefusal s → IsStatusOf s s
-refusal-is (Directory fault) ends = refl
-refusal-is NoJournal ends = refl
-refusal-is OldVersion ends = refl
-refusal-is (OtherDirectory want found) ends = refl
-refusal-is (Damaged file at) ends = refl
-refusal-is DiskFault ends = refl
-refusal-is InputFault ends = refl
-refusal-is NoMemory ends = refl
-refusal-is _ ends = absurd ends
+refusal-is (Capture at) ends = absurd ends
+refusal-is _ ends = refl
 
 -- the directory was not accepted, or the journal not opened
 pub unbegun : {S P : Type 0} (source : SourceMeanings S) (w : StationMeanings P) (c : ℕ) (status : Status) (od nd oc : S) (old new : P)
@@ -207,19 +154,6 @@ pub unopened : {S P : Type 0} (source : SourceMeanings S) (w : StationMeanings P
     → Unpacks source w c status (world od oc old) (world nd oc new)
 unopened source w c status d od nd oc old new h here read =
     unbegun source w c status od nd oc old new h (λ observed none kept. absurd (present d (source.left od) c here (read observed) none))
-
--- the directory has no such circuit
-pub no-circuit : {S P : Type 0} (source : SourceMeanings S) (w : StationMeanings P) (c : ℕ) (d : directories.Directory) (od nd oc : S) (old : P)
-    → ReadsDirectory source (Ok d) od nd → length d.circuits ≤ c → Unpacks source w c Usage (world od oc old) (world nd oc old)
-no-circuit source w c d od nd oc old h over = record {
-  words = λ is. (refl, refl, λ observed. (d, h.read observed d refl, over));
-  replays = λ some. absurd (some refl);
-  accum = λ at is. absurd (cc);
-  done = λ is. absurd (cc);
-  circuit = λ observed none kept. inl refl;
-  directory_taken = h.taken;
-  directory_count = h.cause.later;
-}
 
 -- ---- there was no memory to read the words
 

@@ -35,11 +35,15 @@ pub record IsTooLarge (d : directories.Directory) (n : Need) (used need limit : 
   pub sum : IsFullCompacted d (begun n) (switch.Full used need limit)
   pub synced : new ≡ Did Syncs ∷ old
 
+-- the ends that it has beside a refusal
+abbrev pub IsCompactionEnd : Status → Type 0
+IsCompactionEnd Done = Unit {0}
+IsCompactionEnd (Full used need limit) = Unit {0}
+IsCompactionEnd _ = ⊥
+
 -- the ends that the command has
 abbrev pub IsCompactEnd : Status → Type 0
-IsCompactEnd Done = Unit {0}
-IsCompactEnd (Full used need limit) = Unit {0}
-IsCompactEnd status = IsRefusal status
+IsCompactEnd status = IsRefusal status ⊎ IsCompactionEnd status
 
 -- For each status, what it means for the directory's source and the station before and after, and what holds of every run.
 pub record Compacts {S P : Type 0} (source : SourceMeanings S) (station : StationMeanings P) (status : Status)

@@ -1,8 +1,9 @@
 -- Frames in one buffer, one by one.
-use Rattle.std.proofs.Common.{◌≡◌, ◌≤◌, ◌+◌, ℕ, zero, suc, List, [], ◌∷◌, ◌++◌, length, take, drop, Some, sym, ap, ◌∙◌, arith, length-append, length-drop, append_assoc, slice_get}
+use Rattle.std.proofs.Common.{◌≡◌, ◌≤◌, ◌+◌, ℕ, zero, suc, List, [], ◌∷◌, ◌++◌, length, take, drop, Some, sym, ap, ◌∙◌, arith, length-drop, slice_get}
 use Rattle.gts_calls.specs.Cited.{Frame, Placed, frames_in, no_frame, sizes_of, slice_index_or}
 use Rattle.std.proofs.lemmas.List.{take-append-le, drop-append-le, take_all, take_at, length-take-le, take-take, drop-take, drop-drop, nil_from_length}
 use Rattle.std.proofs.lemmas.List.Sums.{sum_by-cons, sum_by-take-le}
+use Rattle.std.proofs.lemmas.Grind.{common_steps}
 
 -- the size of one, and those of the others
 sizes_cons : (s : Placed) (each : List Placed) → sizes_of (s ∷ each) ≡ s.size + sizes_of each
@@ -11,10 +12,7 @@ sizes_cons s each = sum_by-cons (λ (x : Placed). x.size) s each
 -- one more is laid behind the others
 pub frames_more : (each : List Placed) (bytes : List ℕ) (s : Placed) (new : List ℕ) → sizes_of each ≡ length bytes → s.size ≡ length new
     → frames_in (each ++ s ∷ []) (bytes ++ new) ≡ frames_in each bytes ++ record { index = s.index; text = new } ∷ []
-frames_more [] bytes s new sizes size =
-    let none : bytes ≡ [] = nil_from_length bytes (sym sizes) in
-    let F : List ℕ → List Frame = λ l. record { index = s.index; text = l } ∷ [] in
-    ap (λ (l : List ℕ). F (take s.size (l ++ new))) none ∙ ap F (take_all s.size new (omega (arith, size)))
+frames_more [] bytes s new sizes size = grind (arith, common_steps, nil_from_length, take_all)
 frames_more (t ∷ each) bytes s new sizes size =
     let within : t.size ≤ length bytes = omega (arith, sizes, sizes_cons t each) in
     let behind : sizes_of each ≡ length (drop t.size bytes) = omega (arith, sizes, sizes_cons t each, length-drop t.size bytes) in
@@ -27,10 +25,7 @@ frames_more (t ∷ each) bytes s new sizes size =
 pub frame_at : (each : List Placed) (bytes : List ℕ) (i : ℕ) (s : Placed) → slice_get each i ≡ Some s
     → slice_index_or (frames_in each bytes) i no_frame ≡ record { index = s.index; text = take s.size (drop (sizes_of (take i each)) bytes) }
 frame_at [] bytes i s is = absurd (cc is)
-frame_at (t ∷ each) bytes zero s is =
-    let same : t ≡ s = cc is in
-    let F : Placed → Frame = λ x. record { index = x.index; text = take x.size bytes } in
-    ap F same
+frame_at (t ∷ each) bytes zero s is = grind (arith, common_steps)
 frame_at (t ∷ each) bytes (suc i) s is =
     let F : List ℕ → Frame = λ l. record { index = s.index; text = take s.size l } in
     frame_at each (drop t.size bytes) i s is
@@ -48,13 +43,7 @@ sizes_within each i = sum_by-take-le (λ (x : Placed). x.size) each i
 -- bytes that are put behind the first ones, in the place of as many
 pub put_behind : (before new : List ℕ) (size count : ℕ) → count ≡ length new → size + length new ≤ length before
     → (length (take size before ++ (new ++ drop count (drop size before))) ≡ length before) × (take (size + length new) (take size before ++ (new ++ drop count (drop size before))) ≡ take size before ++ new)
-put_behind before new size count is fits =
-    let after : List ℕ = drop count (drop size before) in
-    let long : length (take size before) ≡ size = length-take-le size before (omega (arith, fits)) in (
-      omega (arith, long, is, fits, length-append (take size before) (new ++ after), length-append new after, length-drop count (drop size before), length-drop size before),
-      ap (λ (l : List ℕ). take (size + length new) l) (sym (append_assoc (take size before) new after))
-          ∙ take_at (take size before ++ new) after (size + length new) (omega (arith, long, length-append (take size before) new)),
-    )
+put_behind before new size count is fits = grind (arith, common_steps, length-take-le, take_at)
 
 -- bytes within the first ones
 pub within_front : (bytes : List ℕ) (size from count : ℕ) → from + count ≤ size → take count (drop from (take size bytes)) ≡ take count (drop from bytes)

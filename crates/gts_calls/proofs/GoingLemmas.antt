@@ -107,10 +107,7 @@ module _ {O W : Type 0} (meanings : Standing O W) where
       go : (f : SwitchFault) → AfterSettling meanings o s.front s.events (Err f) new → BreaksOff meanings (λ _. o) first h more f new
       go DiskFault doubt = in_doubt o first h more old new s doubt
       go SayFault cut = cut_short o first h more old new s cut
-      go (Full used need limit) none = absurd none
-      go (Stopped by) none = absurd none
-      go Spent none = absurd none
-      go NoMemory none = absurd none
+      go _ none = absurd none
 
   -- ---- a call
 

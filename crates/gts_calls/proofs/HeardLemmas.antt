@@ -10,11 +10,7 @@ module _ {O W : Type 0} (meanings : Standing O W) where
       → AfterCall meanings o entries events e result new → AfterHearing meanings o entries events e result new
   as_hearing o entries events e (Ok answer) new a = a
   as_hearing o entries events e (Err DiskFault) new a = inl a
-  as_hearing o entries events e (Err SayFault) new a = a
-  as_hearing o entries events e (Err (Full used need limit)) new a = a
-  as_hearing o entries events e (Err (Stopped by)) new a = a
-  as_hearing o entries events e (Err Spent) new a = a
-  as_hearing o entries events e (Err NoMemory) new a = a
+  as_hearing o entries events e _ new a = a
 
   -- what is answered as any call is heard
   pub as_heard : (e : Event) (result : Result Outcome SwitchFault) (old new : W) → IsAnswered meanings e result old new → IsHeard meanings e result old new

@@ -1,9 +1,10 @@
 -- Entries under a name, their frames, and a desk's calls one after another.
-use Rattle.std.proofs.Common.{◌≡◌, ℕ, ◌+◌, ◌==◌, List, [], ◌∷◌, ◌++◌, inl, inr, Bool, true, false, cond, refl, sym, ap, ◌∙◌, subst, arith, append_assoc}
-use Rattle.gts_calls.specs.Cited.{AddsAll, AddsAny, AddsEntries, Directory, Entry, GoesOn, IsSpent, PassesBetween, Seen, StartsWith, State, after_all, after_entry, begun, entries, entries_under, filter, frame_of, frames, own, own_frames, state_at, under}
+use Rattle.std.proofs.Common.{◌≡◌, ℕ, ◌+◌, ◌==◌, List, [], ◌∷◌, ◌++◌, inl, inr, true, cond, refl, sym, ap, ◌∙◌, subst, arith, append_assoc}
+use Rattle.gts_calls.specs.Cited.{AddsAll, AddsAny, AddsEntries, Directory, Entry, GoesOn, IsSpent, PassesBetween, Seen, StartsWith, State, after_all, after_entry, begun, entries, entries_under, frame_of, frames, own, own_frames, state_at, under}
 use Rattle.std.proofs.lemmas.List.{append-nil}
 use Rattle.std.proofs.lemmas.List.Elements.{filter-append}
 use mathlib.Core.List.{map-append}
+use Rattle.std.proofs.lemmas.Grind.{common_steps}
 
 abbrev History : Type 0
 History = List (ℕ × Entry)
@@ -13,9 +14,7 @@ pub just : (old new : Seen) (more : List Entry) (Holds : State → Type 0) → A
 just old new more Holds adds = record { others = adds.others; is = adds.is; strange = adds.strange; holds = tt; caused = adds.caused }
 
 under_append : (n : ℕ) (xs ys : History) → entries_under n (xs ++ ys) ≡ entries_under n xs ++ entries_under n ys
-under_append n xs ys =
-    let f : ℕ × Entry → Bool = λ y. y.0 == n in
-    ap entries (filter-append f xs ys) ∙ map-append (λ (y : ℕ × Entry). y.1) (filter f xs) (filter f ys)
+under_append n xs ys = grind (arith, common_steps, filter-append)
 
 same_name : (n : ℕ) → (n == n) ≡ true
 same_name n = grind arith
@@ -23,10 +22,7 @@ same_name n = grind arith
 -- the entries under a name, of some that are all under it
 pub under_all : (n : ℕ) (more : List Entry) → entries_under n (under n more) ≡ more
 under_all n [] = refl
-under_all n (e ∷ more) =
-    let behind : History = filter (λ (y : ℕ × Entry). y.0 == n) (under n more) in
-    let P : Bool → Type 0 = λ b. entries (cond b ((n, e) ∷ behind) behind) ≡ e ∷ more in
-    subst P (sym (same_name n)) (ap (λ (l : List Entry). e ∷ l) (under_all n more))
+under_all n (e ∷ more) = grind (arith, common_steps, same_name, under_all n more)
 
 pub frames_append : (d : Directory) (s : State) (name : ℕ) (xs ys : History)
     → frames d s name (xs ++ ys) ≡ frames d s name xs ++ frames d (after_all d s (entries xs)) name ys
@@ -42,36 +38,16 @@ not_empty x xs e = cc e
 -- entries under other names draw nothing for this one
 frames_none : (d : Directory) (s : State) (name : ℕ) (ys : History) → entries_under name ys ≡ [] → frames d s name ys ≡ []
 frames_none d s name [] none = refl
-frames_none d s name (x ∷ xs) none = choose (frames_none d (after_entry d s x.1) name xs) (x.0 == name) refl
-  where
-    P : Bool → Type 0
-    P b = entries (cond b (x ∷ filter (λ (y : ℕ × Entry). y.0 == name) xs) (filter (λ (y : ℕ × Entry). y.0 == name) xs)) ≡ []
-
-    choose : (entries_under name xs ≡ [] → frames d (after_entry d s x.1) name xs ≡ []) → (b : Bool) → (x.0 == name) ≡ b → frames d s name (x ∷ xs) ≡ []
-    choose behind true is = absurd (not_empty x.1 (entries_under name xs) (subst P is none))
-    choose behind false is =
-        let Q : Bool → Type 0 = λ b. cond b (frame_of d s x.1) [] ++ frames d (after_entry d s x.1) name xs ≡ [] in
-        subst Q (sym is) (behind (subst P is none))
+frames_none d s name (x ∷ xs) none = grind (arith, common_steps, not_empty, frames_none d (after_entry d s x.1) name xs)
 
 pub frames_one : (d : Directory) (s : State) (name : ℕ) (e : Entry) → frames d s name ((name, e) ∷ []) ≡ frame_of d s e
-frames_one d s name e =
-    let Q : Bool → Type 0 = λ b. cond b (frame_of d s e) [] ++ [] ≡ frame_of d s e in
-    subst Q (sym (same_name name)) (append-nil (frame_of d s e))
+frames_one d s name e = grind (arith, common_steps, same_name, append-nil)
 
 -- the frames of the desk's own draws over a history that goes on, by entries of others and then by its own
 pub frames_behind : (old : Seen) (others : History) (more : List Entry) → entries_under old.name others ≡ []
     → frames old.directory (begun old.start) old.name ((old.history ++ others) ++ under old.name more)
     ≡ own_frames old ++ frames old.directory (state_at old (old.history ++ others)) old.name (under old.name more)
-frames_behind old others more strange =
-    let d : Directory = old.directory in
-    let s : State = begun old.start in
-    let n : ℕ = old.name in
-    let before : History = old.history ++ others in
-    frames_append d s n before (under n more)
-    ∙ ap (λ (l : List ℕ). l ++ frames d (after_all d s (entries before)) n (under n more))
-    (frames_append d s n old.history others
-    ∙ ap (λ (l : List ℕ). frames d s n old.history ++ l) (frames_none d (after_all d s (entries old.history)) n others strange)
-    ∙ append-nil (frames d s n old.history))
+frames_behind old others more strange = grind (arith, common_steps, frames_append, frames_none, append-nil)
 
 module _ (old new : Seen) (more : List Entry) (adds : AddsEntries old more new) where
   -- the desk's own entries get these
@@ -120,15 +96,7 @@ starts_later : (a b c : History) → StartsWith b a → StartsWith c b → Start
 starts_later a b c s t = (s.0 ++ t.0, t.1 ∙ ap (λ (l : History). l ++ t.0) s.1 ∙ append_assoc a s.0 t.0)
 
 pub goes_further : (a b c : Seen) → GoesOn a b → GoesOn b c → GoesOn a c
-goes_further a b c s t = record {
-  hall = t.hall ∙ s.hall;
-  directory = t.directory ∙ s.directory;
-  start = t.start ∙ s.start;
-  used = t.used ∙ s.used;
-  makes_room = t.makes_room ∙ s.makes_room;
-  name = t.name ∙ s.name;
-  later = starts_later a.history b.history c.history s.later t.later;
-}
+goes_further a b c s t = grind (arith, common_steps, starts_later)
 
 pub stays : (d : Seen) → GoesOn d d
 stays d = record { hall = refl; directory = refl; start = refl; used = refl; makes_room = refl; name = refl; later = ([], sym (append-nil d.history)) }

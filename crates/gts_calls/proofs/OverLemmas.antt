@@ -6,6 +6,7 @@ use Rattle.gts_frame.specs.declared.step.Step.TheVariants as steps
 use Rattle.gts_connection.proofs.LawLemmas.{added-twice}
 use Rattle.gts_calls.proofs.FedLemmas.{fed_behind}
 use Rattle.gts_calls.proofs.ReadingLemmas.{ends_behind}
+use Rattle.std.proofs.lemmas.Grind.{common_steps}
 
 kept : (before bytes : List ℕ) (step : Step) → IsNoLoss step → EndsAt before bytes step → KeepsOver before bytes
 kept before bytes steps.More none e = e
@@ -70,19 +71,10 @@ rose_from a b c later rose = omega (arith, later, rose)
 -- a device failed at a later call, or at none
 pub caused_later : (result : Result (Unit {0}) SwitchFault) (disk mid disk_now say heard say_now : ℕ) → HasCallCause {T = Unit {0}} (Ok tt) disk mid say heard → HasCallCause result mid disk_now heard say_now
     → HasCallCause result disk disk_now say say_now
-caused_later result disk mid disk_now say heard say_now a b = record {
-  disk_later = omega (arith, a.disk_later, b.disk_later);
-  disk_failed = λ e. rose_from disk mid disk_now a.disk_later (b.disk_failed e);
-  disk_still = λ n. b.disk_still n ∙ a.disk_still (λ e. cc e);
-  say_later = omega (arith, a.say_later, b.say_later);
-  say_failed = λ e. rose_from say heard say_now a.say_later (b.say_failed e);
-  say_still = λ n. b.say_still n ∙ a.say_still (λ e. cc e);
-}
+caused_later result disk mid disk_now say heard say_now a b = grind (arith, common_steps, rose_from)
 
 -- ---- ends
 
 pub is_that : (end : FeedEnd) → is_all end ≡ true → end ≡ All
 is_that All is = refl
-is_that (Lost field) is = absurd (cc is)
-is_that (Wanting kind fault) is = absurd (cc is)
-is_that (Fault fault) is = absurd (cc is)
+is_that _ is = absurd (cc is)

@@ -1,11 +1,12 @@
 -- The steps of a decoder up to the next event.
-use Rattle.std.proofs.Common.{◌≡◌, ℕ, ◌+◌, ◌-◌, ◌<◌, ◌≤◌, Bool, true, false, ◌&&◌, not, List, [], ◌∷◌, ◌++◌, length, take, drop, Option, Some, None, refl, sym, ap, ◌∙◌, subst, arith, append_assoc, length-append, length-drop, IsSome, IfSome, IfNone}
+use Rattle.std.proofs.Common.{◌≡◌, ℕ, ◌+◌, ◌-◌, ◌<◌, ◌≤◌, Bool, true, false, ◌&&◌, not, List, [], ◌∷◌, ◌++◌, length, take, drop, Option, Some, None, refl, sym, ap, ◌∙◌, subst, arith, append_assoc, length-drop, IsSome, IfSome, IfNone}
 use Rattle.std.proofs.lemmas.List.{append-nil, take_all, length-take-le}
-use Rattle.std.proofs.Math.Seq.{take-append_seam, take-add}
-use Rattle.gts_calls.specs.Cited.{Decoding, EndsAt, Event, FrameField, IsPartial, IsStreamFront, KeepsOver, LosesLast, Makes, Reads, ReadsOn, Step, after_step, events_added, events_of_signs, held_in, is_event, is_front, is_part, piece_text, signs_of_step}
+use Rattle.std.proofs.Math.Seq.{take-add}
+use Rattle.gts_calls.specs.Cited.{Decoding, EndsAt, FrameField, IsPartial, IsStreamFront, KeepsOver, LosesLast, Makes, Reads, ReadsOn, Step, after_step, events_of_signs, held_in, is_event, is_front, is_part, piece_text, signs_of_step}
 use Rattle.gts_frame.specs.declared.step.Step.TheVariants as steps
 use Rattle.gts_frame.proofs.LawLemmas.{reads-open, front-open, part-is}
 use Rattle.gts_connection.proofs.LawLemmas.{added-twice, added-signs}
+use Rattle.std.proofs.lemmas.Grind.{common_steps}
 
 and_first : (a b : Bool) → a && b ≡ true → a ≡ true
 and_first true b h = refl
@@ -18,9 +19,7 @@ ends_with (x ∷ []) some = ([], x, refl)
 ends_with (x ∷ y ∷ ys) some = let e = ends_with (y ∷ ys) (omega arith) in (x ∷ e.0, e.1, ap (λ (l : List ℕ). x ∷ l) e.2)
 
 but_last : (init : List ℕ) (last : ℕ) → take (length (init ++ last ∷ []) - 1) (init ++ last ∷ []) ≡ init
-but_last init last =
-    let size : length (init ++ last ∷ []) - 1 ≡ length init = omega (arith, length-append init (last ∷ [])) in
-    ap (λ (n : ℕ). take n (init ++ last ∷ [])) size ∙ take-append_seam init (last ∷ [])
+but_last init last = grind (arith, common_steps)
 
 -- what some frame or keep-alive begins with, some stream begins with
 front_of_part : (bytes : List ℕ) → IsPartial bytes → IsStreamFront bytes
@@ -119,34 +118,11 @@ no_events c steps.Dropped message none = refl
 
 -- synchronisation was kept over these bytes, and then this step came
 pub ends_behind : (before x y : List ℕ) (step : Step) → KeepsOver before x → EndsAt (before ++ x) y step → EndsAt before (x ++ y) step
-ends_behind before x y step kept ends = go step ends
-  where
-    same : held_in ((before ++ x) ++ y) ≡ held_in (before ++ (x ++ y))
-    same = ap held_in (append_assoc before x y)
-
-    keeps : KeepsOver (before ++ x) y → KeepsOver before (x ++ y)
-    keeps k = λ s. subst IsSome same (k (kept s))
-
-    go : (s : Step) → EndsAt (before ++ x) y s → EndsAt before (x ++ y) s
-    go steps.More e = keeps e
-    go (steps.Frame kind) e = keeps e
-    go steps.KeepAlive e = keeps e
-    go (steps.Lost field) e = record {
-      front = x ++ e.front;
-      last = e.last;
-      is = ap (λ (l : List ℕ). x ++ l) e.is ∙ sym (append_assoc x e.front (e.last ∷ []));
-      kept = subst IsSome (ap held_in (append_assoc before x e.front)) e.kept;
-      lost = sym same ∙ e.lost;
-    }
-    go steps.Dropped e = keeps e
+ends_behind before x y step kept ends = grind (arith, common_steps)
 
 -- a step more behind one that is no event
 pub reads_more : (before x y : List ℕ) (first step : Step) (mid next : Decoding) → is_event first ≡ false → Reads before x first mid → Reads (before ++ x) y step next → Reads before (x ++ y) step next
-reads_more before x y first step mid next none a b = record {
-  held = b.held ∙ ap held_in (append_assoc before x y);
-  ends = ends_behind before x y step (no_loss before x first none a.ends) b.ends;
-  events = λ c. added-twice c before x y ∙ ap (λ (l : List Event). l ++ events_added c (before ++ x) y) (a.events c ∙ no_events c first mid.message none) ∙ b.events c;
-}
+reads_more before x y first step mid next none a b = grind (arith, common_steps, ends_behind, no_loss, added-twice, no_events)
 
 -- ---- places in a piece
 

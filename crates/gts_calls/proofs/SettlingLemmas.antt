@@ -102,10 +102,7 @@ module _ {O W : Type 0} (meanings : Standing O W) where
       go : (f : SwitchFault) → AfterSettling meanings o s.front s.events (Err f) new → (more : List Entry) × AddsAtFault c events f more × settled meanings o (h ++ more) new
       go DiskFault a = turned_together o h events (λ es. Doubt es ∷ []) new (doubt_soon meanings o (length h) h (h ++ all_done events) [] events old new s parts few a)
       go SayFault a = turned_together o h events all_unsaid new (short_soon meanings o (length h) h (h ++ all_done events) [] events old new s parts few a)
-      go (Full used need limit) a = absurd a
-      go (Stopped by) a = absurd a
-      go Spent a = absurd a
-      go NoMemory a = absurd a
+      go _ a = absurd a
 
   -- ---- what a feed gathered
 
@@ -138,8 +135,7 @@ module _ {O W : Type 0} (meanings : Standing O W) where
           → (more : List Entry) × AddsFed c events message end more × settled meanings o (h ++ more) new
       go All done o h c events message goes = (all_done events, refl, settles_all meanings o (length h) (h ++ all_done events) old new tt goes settling)
       go (Lost field) done o h c events message goes = (all_done events, (refl, goes.1), settles_all meanings o (length h) (h ++ all_done events) old new tt goes.0 settling)
-      go (Wanting kind fault) done o h c events message goes = absurd (cc done)
-      go (Fault fault) done o h c events message goes = absurd (cc done)
+      go _ done o h c events message goes = absurd (cc done)
 
   -- settling failed
   pub settles_failed : (end : FeedEnd) (fault : SwitchFault) (old new : W) → is_done end ≡ true → IsSettling meanings (Err fault) old new → SettlesFed meanings end (Fault fault) old new
@@ -154,5 +150,4 @@ module _ {O W : Type 0} (meanings : Standing O W) where
           → Stands meanings o (length h) (h ++ all_done events) old
       stood All done o h c events message goes = goes
       stood (Lost field) done o h c events message goes = goes.0
-      stood (Wanting kind fault) done o h c events message goes = absurd (cc done)
-      stood (Fault fault) done o h c events message goes = absurd (cc done)
+      stood _ done o h c events message goes = absurd (cc done)

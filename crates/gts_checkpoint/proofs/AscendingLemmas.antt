@@ -3,6 +3,7 @@ use Rattle.std.proofs.Common.{◌≡◌, ◌≢◌, ℕ, zero, suc, ◌+◌, ◌
 use Rattle.gts_checkpoint.specs.Cited.{ascends, positions}
 use Rattle.gts_event.specs.declared.values.Bulletin.{Bulletin}
 use Rattle.std.proofs.lemmas.Bool.{and_parts, and_from, false_from_ne_true, ltb-true, lt-ltb, cases_lt}
+use Rattle.std.proofs.lemmas.Grind.{common_steps}
 
 pub rises : (xs : List ℕ) (i j : ℕ) → ascends xs ≡ true → i < j → j < length xs → get_or xs i 0 < get_or xs j 0
 rises [] i j h l m = absurd (omega arith)
@@ -70,8 +71,4 @@ above-half xs n m h more k t l = go (cases_lt m k)
 
 pub found_none : (xs : List ℕ) (n m size : ℕ) → ((k : ℕ) → k < m → get_or xs k 0 < n) → ((k : ℕ) → m ≤ k → k < size → n < get_or xs k 0)
     → (k : ℕ) → k < size → get_or xs k 0 ≢ n
-found_none xs n m size below above k l = go (cases_lt k m)
-  where
-    go : (k < m) ⊎ (m ≤ k) → get_or xs k 0 ≢ n
-    go (inl t) = λ e. let less : get_or xs k 0 < n = below k t in absurd (omega arith)
-    go (inr t) = λ e. let more : n < get_or xs k 0 = above k t l in absurd (omega arith)
+found_none xs n m size below above k l = grind (arith, common_steps, cases_lt)

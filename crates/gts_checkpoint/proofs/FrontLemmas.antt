@@ -88,9 +88,7 @@ need_fits n low few_bulletins few_circuits bulletins circuits = grind (arith, co
 
 unowed_all : (cs : List value_circuit.CircuitNeed) → AllByRecursion FitsValueCircuit cs → map unowed_circuit (map circuit_need_of cs) ≡ map circuit_need_of cs
 unowed_all [] good = refl
-unowed_all (c ∷ cs) good =
-    ap (λ (o : List ℕ). (let q : needs.CircuitNeed = record { draws = c.draws; waiting = c.waiting; kept = c.kept; owed = o } in q) ∷ map unowed_circuit (map circuit_need_of cs)) (sym good.0.5)
-    ∙ ap (λ (l : List needs.CircuitNeed). circuit_need_of c ∷ l) (unowed_all cs good.1)
+unowed_all (c ∷ cs) good = grind (arith, common_steps, unowed_all cs good.1)
 
 pub need_unowed : (n : Need) → AllByRecursion FitsValueCircuit n.circuits → unowed (need_of n) ≡ need_of n
 need_unowed n good = ap (λ (cs : List needs.CircuitNeed). let m : needs.Need = record { accepted = n.accepted; bulletins = map bulletin_of n.bulletins; circuits = cs } in m) (unowed_all n.circuits good)

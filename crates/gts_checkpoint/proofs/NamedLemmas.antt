@@ -4,6 +4,8 @@ use Rattle.gts_checkpoint.specs.Cited.{Bulletin, has, is_there, list_all, positi
 use Rattle.std.proofs.lemmas.Bool.{eq-eqb}
 use Rattle.std.proofs.lemmas.List.{take_all}
 use Rattle.std.proofs.lemmas.List.Folds.{list_all_at}
+use Rattle.std.proofs.lemmas.Grind.{common_steps}
+use Rattle.std.proofs.Common.{arith}
 
 -- ---- each element passes
 
@@ -18,11 +20,7 @@ all-end f xs i l h = sym (ap (list_all f) (take_all i xs l)) ∙ h
 has-get : (xs : List ℕ) (i n : ℕ) → slice_get xs i ≡ Some n → has xs n ≡ true
 has-get [] i n e = absurd (cc)
 has-get (x ∷ xs) zero n e = let same : x ≡ n = cc in rw (eq-eqb x n same) refl
-has-get (x ∷ xs) (suc i) n e = go (x == n) (has-get xs i n e)
-  where
-    go : (b : Bool) → has xs n ≡ true → (b || has xs n) ≡ true
-    go true h = refl
-    go false h = h
+has-get (x ∷ xs) (suc i) n e = grind (arith, common_steps, has-get xs i n e)
 
 -- a search of a place finds what is there
 pub has-found : (xs : List ℕ) (n : ℕ) (r : Option ℕ) → IfSome r (λ place. slice_get xs place ≡ Some n) → IfNone r (has xs n ≡ false) → has xs n ≡ is_some r

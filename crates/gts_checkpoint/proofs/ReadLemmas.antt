@@ -26,8 +26,7 @@ waits a (row ∷ rows) (q ∷ qs) (c ∷ cs) few e =
     ∙ omega (arith, here, length-append c.waiting (flat_map waiting_of cs))
 waits a [] [] (c ∷ cs) few e = absurd (cc e)
 waits a (row ∷ rows) (q ∷ qs) [] few e = absurd (cc e)
-waits a [] (q ∷ qs) cs few e = absurd (omega arith)
-waits a (row ∷ rows) [] cs few e = absurd (omega arith)
+waits a _ _ cs few e = absurd (omega arith)
 
 pub due_is : (d : Directory) (n : Need) → is_sound d (need_of n) ≡ true → due (begun (need_of n)) ≡ length (flat_map waiting_of n.circuits)
 due_is d n sound =
@@ -81,8 +80,7 @@ none_there v d bytes count few low none = false_from_ne_true (admits_checkpoint 
 -- one stands there that may not be the first record
 pub not_first : (v : Version) (d : Directory) (bytes : List ℕ) (n : needs.Need) → need_in bytes ≡ n → (is_sound d n ≡ true → compacted_bytes v n + draw_size v * due (begun n) ≤ d.limit → ⊥)
     → admits_checkpoint v d bytes (need_in bytes) ≡ false
-not_first v d bytes n is none = false_from_ne_true (admits_checkpoint v d bytes (need_in bytes)) (λ h.
-    let p = may_begin v d bytes n (ap (admits_checkpoint v d bytes) (sym is) ∙ h) in none p.sound p.room)
+not_first v d bytes n is none = grind (arith, common_steps, false_from_ne_true, may_begin)
 
 -- one stands there without its seal
 pub not_sealed : (v : Version) (d : Directory) (bytes : List ℕ) (n : needs.Need) → need_in bytes ≡ n → is_sealed v (first_seal v d.mark) (checkpoint_text n) bytes ≡ false
@@ -103,10 +101,7 @@ pub no_damage : {T : Type 0} (v : Version) (d : Directory) (file : ℕ) (bytes :
 no_damage v d file bytes (Ok x) h = tt
 no_damage v d file bytes (Err DiskFault) h = h
 no_damage v d file bytes (Err NoMemory) h = h
-no_damage v d file bytes (Err NoJournal) h = absurd h
-no_damage v d file bytes (Err OldVersion) h = absurd h
-no_damage v d file bytes (Err (NotThis want found)) h = absurd h
-no_damage v d file bytes (Err (Damaged f at)) h = absurd h
+no_damage v d file bytes _ h = absurd h
 
 -- ---- the room that is counted
 
@@ -145,8 +140,7 @@ counts_there d found n at w limit circuits is place w_is same limit_is low = gri
 -- the bytes of the text stand there
 pub size_there : (bytes : List ℕ) (n : Need) (found : Option (Need × ℕ)) (at : ℕ) → found ≡ Some (n, at) → Stands bytes (need_of n)
     → IfSome found (λ f. f.1 ≡ 41 + length (checkpoint_text (need_of f.0))) → at - 41 ≤ length bytes
-size_there bytes n found at is stands place =
-    there_are bytes (need_of n) (at - 41) stands.begins (omega (arith, place_is found n at is place))
+size_there bytes n found at is stands place = grind (arith, common_steps, there_are, place_is)
 
 -- there is room for all that is due
 pub can_begin : (v : Version) (d : Directory) (n : Need) (at w limit gate : ℕ) → Counted d n at w limit → unowed (need_of n) ≡ need_of n → is_sound d (need_of n) ≡ true

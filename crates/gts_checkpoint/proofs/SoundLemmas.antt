@@ -29,11 +29,7 @@ count-other : (x : ℕ) (xs : List ℕ) (n : ℕ) → x ≢ n → count n (x ∷
 count-other x xs n e = rw (ne_eqb x n e) refl
 
 count-le : (x : ℕ) (xs : List ℕ) (n : ℕ) → count n xs ≤ count n (x ∷ xs)
-count-le x xs n = go (x == n) refl
-  where
-    go : (b : Bool) → (x == n) ≡ b → count n xs ≤ count n (x ∷ xs)
-    go true e = omega (arith, count-same x xs n (eqb-true x n e))
-    go false e = rw e (omega arith)
+count-le x xs n = grind (arith, common_steps, count-same, eqb-true)
 
 count-none : (xs : List ℕ) (n : ℕ) → ((k : ℕ) → k < length xs → get_or xs k 0 ≢ n) → count n xs ≡ 0
 count-none [] n h = refl
@@ -185,11 +181,8 @@ pub rows-not : (f : Circuit × CircuitNeed → Bool) (rows : List Circuit) (qs :
     → list_all f (zip rows (map circuit_need_of qs)) ≡ false
 rows-not f [] qs k row q a b h = absurd (cc)
 rows-not f (x ∷ rows) [] k row q a b h = absurd (cc)
-rows-not f (x ∷ rows) (y ∷ qs) zero row q a b h =
-    let here : f (x, circuit_need_of y) ≡ false = cc in
-    ap (λ (t : Bool). t && list_all f (zip rows (map circuit_need_of qs))) here
-rows-not f (x ∷ rows) (y ∷ qs) (suc k) row q a b h =
-    ap (λ (t : Bool). f (x, circuit_need_of y) && t) (rows-not f rows qs k row q a b h) ∙ and-false (f (x, circuit_need_of y))
+rows-not f (x ∷ rows) (y ∷ qs) zero row q a b h = grind (arith, common_steps)
+rows-not f (x ∷ rows) (y ∷ qs) (suc k) row q a b h = grind (arith, common_steps, rows-not f rows qs k row q a b h)
 
 pub get-below : {X : Type 0} (xs : List X) (k : ℕ) (x : X) → slice_get xs k ≡ Some x → k < length xs
 get-below [] k x e = absurd (cc)
@@ -213,16 +206,7 @@ pub circuits-more : (f : Circuit → values.CircuitNeed → Bool) (rows : List C
     → ((k : ℕ) (row : Circuit) (q : values.CircuitNeed) → k < c → slice_get rows k ≡ Some row → slice_get qs k ≡ Some q → f row q ≡ true)
     → slice_get qs c ≡ Some here → ((row : Circuit) → slice_get rows c ≡ Some row → f row here ≡ true)
     → (k : ℕ) (row : Circuit) (q : values.CircuitNeed) → k < c + 1 → slice_get rows k ≡ Some row → slice_get qs k ≡ Some q → f row q ≡ true
-circuits-more f rows qs c here before is h k row q l a b = go (cases_lt k c)
-  where
-    go : (k < c) ⊎ (c ≤ k) → f row q ≡ true
-    go (inl t) = before k row q t a b
-    go (inr t) =
-        let same : k ≡ c = omega arith in
-        let at : slice_get rows c ≡ Some row = sym (ap (slice_get rows) same) ∙ a in
-        let there : slice_get qs c ≡ Some q = sym (ap (slice_get qs) same) ∙ b in
-        let one : q ≡ here = cc in
-        let sound = h row at in cc
+circuits-more f rows qs c here before is h k row q l a b = grind (arith, common_steps, cases_lt)
 
 pub if-ok : {T E : Type 0} (P Q : T → Type 0) (r : Result T E) → ((x : T) → P x → Q x) → IfOk r P → IfOk r Q
 if-ok P Q (Ok x) f h = f x h

@@ -1,6 +1,6 @@
 -- How pieces are put one behind the other.
 use Rattle.std.proofs.lemmas.Grind.{common_steps}
-use Rattle.std.proofs.Common.{◌≡◌, ℕ, zero, suc, ◌+◌, ◌<◌, ◌≤◌, get_or, List, [], ◌∷◌, ◌++◌, length, take, drop, refl, sym, ap, subst, ◌∙◌, arith, Result, Ok, Err, OnOk}
+use Rattle.std.proofs.Common.{◌≡◌, ℕ, zero, suc, ◌+◌, ◌<◌, ◌≤◌, get_or, List, [], ◌∷◌, ◌++◌, length, take, drop, refl, ap, subst, ◌∙◌, arith, Result, Ok, Err, OnOk}
 use Rattle.gts_event.proofs.ExtentLemmas.{flat_more}
 use Rattle.gts_checkpoint.specs.Cited.{Call, HasPut, SealingWriter, Stands, flat_map, overwritten, put_by}
 use Rattle.std.proofs.lemmas.List.{append-nil}
@@ -37,8 +37,7 @@ written_end xs bytes = ap (λ (l : List ℕ). l ++ (bytes ++ drop (length xs + l
 
 pub flat_room : {A : Type 0} (f : A → List ℕ) (xs : List A) (i : ℕ) (x : A) → i < length xs → x ≡ get_or xs i x
     → length (flat_map f (take i xs)) + length (f x) ≤ length (flat_map f xs)
-flat_room {A} f xs i x low is =
-    subst (λ (y : A). length (flat_map f (take i xs)) + length (f y) ≤ length (flat_map f xs)) (sym is) (length-flat_map-take f xs i x low)
+flat_room {A} f xs i x low is = grind (arith, common_steps, length-flat_map-take)
 
 pub put_next : {A : Type 0} (f : A → List ℕ) (observed : Type 0) (xs : List A) (i : ℕ) (x : A) (a b c : List Call) (p q r : SealingWriter) → i < length xs → x ≡ get_or xs i x
     → HasPut observed (flat_map f (take i xs)) a p b q → HasPut observed (f x) b q c r → HasPut observed (flat_map f (take (i + 1) xs)) a p c r

@@ -1,7 +1,9 @@
 -- Histories of lists of entries, and the entries in them.
-use Rattle.std.proofs.Common.{◌≡◌, ℕ, ◌==◌, Bool, true, false, List, [], ◌∷◌, ◌++◌, refl, sym, ap, ◌∙◌, append_assoc}
+use Rattle.std.proofs.Common.{◌≡◌, ℕ, ◌==◌, true, false, List, [], ◌∷◌, ◌++◌, refl, sym, ap, ◌∙◌, append_assoc}
 use Rattle.std.proofs.lemmas.List.{append-nil}
 use Rattle.gts_circuits.specs.Cited.{Entry, StartsWith, all_of, entries, entries_under, flat, under}
+use Rattle.std.proofs.lemmas.Grind.{common_steps}
+use Rattle.std.proofs.Common.{arith}
 
 -- ---- histories
 
@@ -11,12 +13,7 @@ entries-append {E} (x ∷ g) h = ap (λ (l : List E). x.1 ∷ l) (entries-append
 
 pub under-append : {E : Type 0} (name : ℕ) (g h : List (ℕ × E)) → entries_under name (g ++ h) ≡ entries_under name g ++ entries_under name h
 under-append name [] h = refl
-under-append {E} name (x ∷ g) h = go (under-append name g h) (x.0 == name) refl
-  where
-    go : entries_under name (g ++ h) ≡ entries_under name g ++ entries_under name h → (b : Bool) → (x.0 == name) ≡ b
-        → entries_under name (x ∷ (g ++ h)) ≡ entries_under name (x ∷ g) ++ entries_under name h
-    go rest true e = rw e (ap (λ (l : List E). x.1 ∷ l) rest)
-    go rest false e = rw e rest
+under-append {E} name (x ∷ g) h = grind (arith, common_steps, under-append name g h)
 
 -- ---- lists of a turn
 
@@ -41,8 +38,7 @@ named_entries name (x ∷ more) = ap (λ (l : List Entry). x ∷ l) (named_entri
 
 pub entries_flat : (h : List (ℕ × List Entry)) → entries (flat h) ≡ all_of (entries h)
 entries_flat [] = refl
-entries_flat (x ∷ h) =
-    entries-append (under x.0 x.1) (flat h) ∙ ap (λ (l : List Entry). l ++ entries (flat h)) (named_entries x.0 x.1) ∙ ap (λ (l : List Entry). x.1 ++ l) (entries_flat h)
+entries_flat (x ∷ h) = grind (arith, common_steps, entries-append, named_entries, entries_flat h)
 
 -- those under one name
 named_mine : (name other : ℕ) (more : List Entry) → (other == name) ≡ true → entries_under name (under other more) ≡ more
@@ -56,24 +52,7 @@ named_others name other (x ∷ more) same = rw same (named_others name other mor
 -- the entries under a name are those of the lists under it
 pub under_flat : (name : ℕ) (h : List (ℕ × List Entry)) → entries_under name (flat h) ≡ all_of (entries_under name h)
 under_flat name [] = refl
-under_flat name (x ∷ h) = go (under_flat name h) (x.0 == name) refl
-  where
-    parts : entries_under name (flat (x ∷ h)) ≡ entries_under name (under x.0 x.1) ++ entries_under name (flat h)
-    parts = under-append name (under x.0 x.1) (flat h)
-
-    mine : (x.0 == name) ≡ true → entries_under name (x ∷ h) ≡ x.1 ∷ entries_under name h
-    mine e = rw e refl
-
-    others : (x.0 == name) ≡ false → entries_under name (x ∷ h) ≡ entries_under name h
-    others e = rw e refl
-
-    go : entries_under name (flat h) ≡ all_of (entries_under name h) → (b : Bool) → (x.0 == name) ≡ b → entries_under name (flat (x ∷ h)) ≡ all_of (entries_under name (x ∷ h))
-    go rest true e =
-        parts ∙ ap (λ (l : List Entry). l ++ entries_under name (flat h)) (named_mine name x.0 x.1 e) ∙ ap (λ (l : List Entry). x.1 ++ l) rest
-        ∙ sym (ap all_of (mine e))
-    go rest false e =
-        parts ∙ ap (λ (l : List Entry). l ++ entries_under name (flat h)) (named_others name x.0 x.1 e) ∙ rest
-        ∙ sym (ap all_of (others e))
+under_flat name (x ∷ h) = grind (arith, common_steps, under-append, named_mine, named_others, under_flat name h)
 
 pub starts_flat : (h g : List (ℕ × List Entry)) → StartsWith h g → StartsWith (flat h) (flat g)
 starts_flat h g s = (flat s.0, ap flat s.1 ∙ flat-append g s.0)

@@ -310,10 +310,7 @@ module _ {P W : Type 0} (engine : W → Engine P) (makes : W → Bool) (station 
         go (Ok done) is g = all_settled result cause cs entries events none mode d s f st done is g
         go (Err DiskFault) is g = in_doubt result cause cs entries events none mode d s f st is g
         go (Err SayFault) is g = cut_short result cause cs entries events none mode d s f st is g
-        go (Err (Full used need limit)) is g = g
-        go (Err (Stopped by)) is g = g
-        go (Err Spent) is g = g
-        go (Err NoMemory) is g = g
+        go _ is g = g
 
     -- what a call leaves behind a compaction, which comes behind what was gathered
     pub compacted : (entries : List Entry) (events : List Event) (event : Event) (result : Result Outcome SwitchFault)
@@ -359,10 +356,7 @@ module _ {P W : Type 0} (engine : W → Engine P) (makes : W → Bool) (station 
   cause_as F G turns h o DiskFault c = c
   cause_as F G turns h o SayFault c = c
   cause_as F G turns h o (Full used need limit) c = turns (Full used need limit) c
-  cause_as F G turns h o (Stopped Disk) c = c
-  cause_as F G turns h o (Stopped Say) c = c
-  cause_as F G turns h o Spent c = c
-  cause_as F G turns h o NoMemory c = c
+  cause_as F G turns h o _ c = c
 
   -- a call that compacts nothing, for an event that is never accepted where room is made
   pub answered : (event : Event) (result : Result Outcome SwitchFault) (old new : W) → makes new ≡ makes old → HasCallCause result (disk_of old) (disk_of new) (say_of old) (say_of new)

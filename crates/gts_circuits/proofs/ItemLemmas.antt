@@ -5,6 +5,7 @@ use mathlib.Core.Option.{some}
 use lib.ListN.{get_elem?}
 use Rattle.gts_circuits.specs.Cited.{Circuit, CircuitRoom, Directory, PlaceSeen, place_asked, place_of}
 use Rattle.gts_circuits.proofs.PlacesLemmas.{in_middle, map_at}
+use Rattle.std.proofs.lemmas.Grind.{common_steps}
 
 module _ {A : Type 0} where
   pub item_at : (xs : List A) (k : ℕ) (d : A) → k < length xs → get_elem? xs k ≡ some (get_or xs k d)
@@ -39,10 +40,7 @@ asked_at before room rest all c is place = ap (get_elem? (map place_asked all)) 
 -- one item more of a list that was mapped
 pub take_next : {A B : Type 0} (f : A → B) (xs : List A) (k : ℕ) (x : A) → slice_get xs k ≡ Some x → take (suc k) (map f xs) ≡ take k (map f xs) ++ f x ∷ []
 take_next f [] k x at = absurd (cc at)
-take_next f (y ∷ xs) zero x at = ap (λ (z : _). f z ∷ []) (some_is y x at)
-  where
-    some_is : {A : Type 0} (y x : A) → Some y ≡ Some x → y ≡ x
-    some_is y x e = cc e
+take_next f (y ∷ xs) zero x at = grind (arith, common_steps)
 take_next f (y ∷ xs) (suc k) x at = ap (λ (l : List _). f y ∷ l) (take_next f xs k x at)
 
 -- the places of one room more

@@ -5,6 +5,7 @@ use mathlib.Core.Option.{some, some-injective, some-ne-none}
 use lib.ListN.{get_elem?}
 use Rattle.gts_circuits.proofs.DrainLemmas.{same_or_not}
 use Rattle.gts_circuits.proofs.PlacesLemmas.{at_less}
+use Rattle.std.proofs.lemmas.Grind.{common_steps}
 
 abbrev pub Elsewhere : ℕ → LinesSeen → LinesSeen → Type 0
 Elsewhere c m n = SameElsewhere c m.is_open m.faults m.place m.bytes n.is_open n.faults n.place n.bytes
@@ -13,12 +14,7 @@ pub same_itself : (m : LinesSeen) (c : ℕ) → IsSame m m c
 same_itself m c = record { is_open = refl; faults = refl; place = refl; bytes = refl }
 
 pub same_still : (l m n : LinesSeen) (c k : ℕ) → Elsewhere c m n → k ≢ c → IsSame l m k → IsSame l n k
-same_still l m n c k e differ s = record {
-  is_open = e.opened k differ ∙ s.is_open;
-  faults = e.faults k differ ∙ s.faults;
-  place = e.place k differ ∙ s.place;
-  bytes = e.bytes k differ ∙ s.bytes;
-}
+same_still l m n c k e differ s = grind (arith, common_steps)
 
 pub last_or_before : {A : Type 0} (xs : List A) (x : A) (k : ℕ) (y : A) → get_elem? (xs ++ x ∷ []) k ≡ some y → (get_elem? xs k ≡ some y) ⊎ ((k ≡ length xs) × (x ≡ y))
 last_or_before [] x zero y at = inr (refl, some-injective x y at)

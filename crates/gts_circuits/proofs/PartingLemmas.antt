@@ -4,6 +4,8 @@ use Rattle.std.proofs.lemmas.List.{append-nil}
 use Rattle.gts_circuits.specs.Cited.{Decoding, Given, Incoming, Line, Outgoing, ReceiveEnd, SendEnd, ServeEnd, first_fault, has_end, incoming_of, is_some, outgoing_of, receiver_first, sender_first}
 use Rattle.gts_circuits.specs.declared.workers.line.Line.TheVariants as lines
 use Rattle.gts_circuits.proofs.PartedLemmas.{incoming-append, outgoing-append, no_end}
+use Rattle.std.proofs.lemmas.Grind.{common_steps}
+use Rattle.std.proofs.Common.{arith}
 
 module _ {S K : Type 0} where
   pub source_ended : (l : Line S K) (source : S) (connections : ℕ) (decoder : Decoding) (end : Option ReceiveEnd) → l ≡ lines.Incoming source connections decoder end → end ≡ None → has_end l ≡ true → ⊥
@@ -47,7 +49,4 @@ last_place old rest x tail all is whole = sym (append_assoc rest (x ∷ []) tail
 
 pub fault_more : (k n m : ℕ) (r : ReceiveEnd) (s : SendEnd) (end behind : ServeEnd) (xs : List (ReceiveEnd × SendEnd))
     → end ≡ receiver_first k r (sender_first k s behind) → behind ≡ first_fault m xs → k ≡ n → m ≡ n + 1 → end ≡ first_fault n ((r, s) ∷ xs)
-fault_more k n m r s end behind xs is before k_is m_is =
-    is ∙ ap (λ (z : ServeEnd). receiver_first k r (sender_first k s z)) before
-    ∙ ap (λ (j : ℕ). receiver_first k r (sender_first k s (first_fault j xs))) m_is
-    ∙ ap (λ (j : ℕ). receiver_first j r (sender_first j s (first_fault (n + 1) xs))) k_is
+fault_more k n m r s end behind xs is before k_is m_is = grind (arith, common_steps)

@@ -1,12 +1,13 @@
 -- Entries under a name, and what stays so of a worker that has ended while the history goes on.
-use Rattle.std.proofs.Common.{◌≡◌, ◌≢◌, ℕ, ◌≤◌, ◌==◌, suc, length, List, [], ◌∷◌, ◌++◌, Bool, true, false, cond, refl, sym, ap, ◌∙◌, subst, arith, append_assoc}
+use Rattle.std.proofs.Common.{◌≡◌, ◌≢◌, ℕ, ◌≤◌, ◌==◌, suc, length, List, [], ◌∷◌, ◌++◌, Bool, true, false, cond, refl, sym, ap, ◌∙◌, arith, append_assoc}
 use Rattle.std.proofs.lemmas.Bool.{eqb-true}
-use Rattle.gts_circuits.specs.Cited.{Beginning, Directory, EndsWithin, Entry, Ghosts as SinkMeanings, IsReceived, IsSent, Outgoing, Part, ReceiveEnd, SendEnd, SenderStands, Sending, State, TableId, after_all, after_entry, entries, entries_under, filter, frame_of, frames, fresh, receiver_name, seen_at, sender_at, sender_name}
+use Rattle.gts_circuits.specs.Cited.{Beginning, Directory, EndsWithin, Entry, Ghosts as SinkMeanings, IsReceived, IsSent, Outgoing, Part, ReceiveEnd, SendEnd, SenderStands, Sending, State, TableId, after_all, after_entry, entries, entries_under, frame_of, frames, fresh, receiver_name, seen_at, sender_at, sender_name}
 use Rattle.gts_event.specs.Cited.{begun}
 use Rattle.std.proofs.lemmas.List.{append-nil, append_cancel_left}
 use Rattle.gts_circuits.proofs.FlatLemmas.{under-append}
 use mathlib.Core.Option.{some}
 use lib.ListN.{get_elem?}
+use Rattle.std.proofs.lemmas.Grind.{common_steps}
 
 abbrev History : Type 0
 History = List (ℕ × Entry)
@@ -14,11 +15,7 @@ History = List (ℕ × Entry)
 -- under a name there are no more entries than there are
 pub under_few : {E : Type 0} (name : ℕ) (g : List (ℕ × E)) → length (entries_under name g) ≤ length g
 under_few name [] = omega arith
-under_few name (x ∷ g) = go (under_few name g) (x.0 == name) refl
-  where
-    go : length (entries_under name g) ≤ length g → (b : Bool) → (x.0 == name) ≡ b → length (entries_under name (x ∷ g)) ≤ length (x ∷ g)
-    go rest true e = rw e (omega (arith, rest))
-    go rest false e = rw e (omega (arith, rest))
+under_few name (x ∷ g) = grind (arith, common_steps, under_few name g)
 
 pub not_empty : {A : Type 0} (x : A) (xs : List A) → x ∷ xs ≡ [] → ⊥
 not_empty x xs e = cc e
@@ -34,16 +31,7 @@ frames-append d s name (x ∷ xs) ys =
 -- entries under other names draw nothing for this one
 frames_none : (d : Directory) (s : State) (name : ℕ) (ys : History) → entries_under name ys ≡ [] → frames d s name ys ≡ []
 frames_none d s name [] none = refl
-frames_none d s name (x ∷ xs) none = choose (frames_none d (after_entry d s x.1) name xs) (x.0 == name) refl
-  where
-    P : Bool → Type 0
-    P b = entries (cond b (x ∷ filter (λ (y : ℕ × Entry). y.0 == name) xs) (filter (λ (y : ℕ × Entry). y.0 == name) xs)) ≡ []
-
-    choose : (entries_under name xs ≡ [] → frames d (after_entry d s x.1) name xs ≡ []) → (b : Bool) → (x.0 == name) ≡ b → frames d s name (x ∷ xs) ≡ []
-    choose behind true is = absurd (not_empty x.1 (entries_under name xs) (subst P is none))
-    choose behind false is =
-        let Q : Bool → Type 0 = λ b. cond b (frame_of d s x.1) [] ++ frames d (after_entry d s x.1) name xs ≡ [] in
-        subst Q (sym is) (behind (subst P is none))
+frames_none d s name (x ∷ xs) none = grind (arith, common_steps, not_empty, frames_none d (after_entry d s x.1) name xs)
 
 -- none of these entries is under this name
 pub none_under : (name : ℕ) (added : History) → ((k : ℕ) (x : ℕ × Entry) → get_elem? added k ≡ some x → x.0 ≢ name) → entries_under name added ≡ []
@@ -64,11 +52,7 @@ not_receiver c d e = omega (arith, e)
 
 pub within_more : (threads : List (ℕ × List Entry)) (history added : History) (name : ℕ) (full : Bool) (upto : History) → EndsWithin threads history name full upto
     → entries_under name added ≡ [] → EndsWithin threads (history ++ added) name full upto
-within_more threads history added name full upto w none = record {
-  front = (w.front.0 ++ added, ap (λ (l : History). l ++ added) w.front.1 ∙ append_assoc upto w.front.0 added);
-  own = under-append name history added ∙ ap (λ (l : List Entry). entries_under name history ++ l) none ∙ append-nil (entries_under name history) ∙ w.own;
-  spent = w.spent;
-}
+within_more threads history added name full upto w none = grind (arith, common_steps, under-append, append-nil)
 
 module _ (b : Beginning) (threads : List (ℕ × List Entry)) (history added : History) (c : ℕ) where
   pub received_more : (connections : ℕ) (earlier : List Part) (last : Part) (end : ReceiveEnd) → entries_under (receiver_name c) added ≡ []

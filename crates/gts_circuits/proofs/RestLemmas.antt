@@ -1,11 +1,13 @@
 -- Where a take gives nothing, and what takes on other circuits leave of that.
-use Rattle.std.proofs.Common.{◌≡◌, ◌≢◌, Bool, ℕ, suc, List, [], ◌∷◌, ◌++◌, refl, sym, ap, ◌∙◌}
+use Rattle.std.proofs.Common.{◌≡◌, ◌≢◌, Bool, ℕ, suc, List, [], ◌∷◌, ◌++◌, refl, ap, ◌∙◌}
 use Rattle.std.proofs.lemmas.List.{get_or-set_other}
 use Rattle.gts_circuits.specs.Cited.{AreTakes, Beginning, Choice, CircuitState, Directory, Doubt, Draw, Draws, Entry, Event, GivesNothing, Idle, IsTake, Nothing, Nothing_waits, Outcome, Repeats, Resend, Restarted, State, TableId, Taken, TookLast, Unsaid, after, after_all, after_entry, after_take, choice, choice_of, draws, entries, idle, next, on_circuit, outcome, seen_at, state_at, waiting, with_circuit, with_drawn, with_repeated}
 use Rattle.gts_event.specs.Cited.{begun}
 use Rattle.gts_event.specs.declared.event.Entry.TheVariants.{Done}
 use Rattle.gts_event.proofs.LawLemmas.{after_all-append, nothing_left}
 use Rattle.gts_circuits.proofs.FlatLemmas.{entries-append}
+use Rattle.std.proofs.lemmas.Grind.{common_steps}
+use Rattle.std.proofs.Common.{arith}
 
 abbrev leads_to : Choice → Outcome
 leads_to x = elim x [ Repeats index ↦ Resend index | Draws index position ↦ Draw index | Nothing_waits ↦ Nothing ]
@@ -21,21 +23,11 @@ no_choice d s c e = nothing_waits (choice d s c) e
 -- ---- after a take that gave nothing, a take would give nothing
 
 still_nothing : (d : Directory) (s : State) (c : ℕ) → outcome d s (Taken c) ≡ Nothing → outcome d (after d s (Taken c)) (Taken c) ≡ Nothing
-still_nothing d s c e =
-    let same : after d s (Taken c) ≡ s = ap (after_take s c) (no_choice d s c e) in
-    ap (λ (t : State). outcome d t (Taken c)) same ∙ e
+still_nothing d s c e = grind (arith, common_steps, no_choice)
 
 pub took_nothing : (b : Beginning) (hall : TableId) (name turns : ℕ) (full : Bool) (c : ℕ) (history : List (ℕ × Entry))
     → TookLast c (seen_at b hall name turns full history) Nothing → GivesNothing b c history
-took_nothing b hall name turns full c history t =
-    let d : Directory = b.origin.directory in
-    let s : State = begun b.origin.start in
-    let before : State = after_all d s (entries t.before) in
-    let here : after_all d s (entries history) ≡ after d before (Taken c) =
-    ap (λ (h : List (ℕ × Entry)). after_all d s (entries h)) t.is
-    ∙ ap (after_all d s) (entries-append t.before ((name, Done (Taken c)) ∷ []))
-    ∙ after_all-append d s (entries t.before) (Done (Taken c) ∷ []) in
-    ap (λ (u : State). outcome d u (Taken c)) here ∙ still_nothing d before c (sym t.outcome_is)
+took_nothing b hall name turns full c history t = grind (arith, common_steps, entries-append, after_all-append, still_nothing)
 
 -- ---- takes on another circuit
 
@@ -75,7 +67,4 @@ gives_still b c k past added differ takes nothing =
 -- where a take would give nothing, nothing is owed and nothing waits
 pub nothing_there : (b : Beginning) (c : ℕ) (history : List (ℕ × Entry)) → GivesNothing b c history
     → ((on_circuit (state_at b.origin (entries history)) c).owed ≡ []) × (waiting (on_circuit (state_at b.origin (entries history)) c) ≡ [])
-nothing_there b c history nothing =
-    let d : Directory = b.origin.directory in
-    let s : State = state_at b.origin (entries history) in
-    nothing_left d s c (no_choice d s c nothing)
+nothing_there b c history nothing = grind (arith, common_steps, nothing_left, no_choice)

@@ -1,8 +1,8 @@
 -- What a run of all circuits leaves, of what opening, the threads, the takes behind them and closing leave.
-use Rattle.std.proofs.Common.{◌≡◌, ◌⊎◌, inl, inr, ℕ, zero, suc, ◌+◌, ◌-◌, ◌*◌, ◌<◌, ◌≤◌, ◌==◌, Bool, true, false, not, cond, List, [], ◌∷◌, ◌++◌, length, map, length-append, Some, refl, sym, ap, ◌∙◌, subst, arith}
+use Rattle.std.proofs.Common.{◌≡◌, ◌⊎◌, inl, inr, ℕ, zero, suc, ◌+◌, ◌-◌, ◌*◌, ◌<◌, ◌≤◌, ◌==◌, Bool, true, false, not, cond, List, [], ◌∷◌, ◌++◌, length, map, length-append, refl, sym, ap, ◌∙◌, subst, arith}
 use Rattle.std.proofs.lemmas.Bool.{eq-eqb, cases_lt}
 use Rattle.std.proofs.lemmas.List.{append_cancel_right}
-use Rattle.gts_circuits.specs.Cited.{AreOpened, AreOver, Beginning, Begun, Circuit, Directory, Engine, Entry, Event, Ghosts as SinkMeanings, HasNoPorts, HasPlace, HavePassed, Incoming, IsAtRest, IsClosed, IsDoneIn, IsFinished, IsHandedBack, IsOpened, IsOver, IsReceived, IsSame, IsSent, IsShutIfClosed, Line, LineStood, LinesSeen, Long, LostSync, MOST_TURNS, NamesAreUpTo, Outgoing, Part, PlaceSeen, ReceiveEnd, Receiver, ReceiverStands, Rose, SendEnd, Sender, ServeEnd, Serves, ServesCircuit, Sockets, SourceFault, SourceMeanings, StationMeanings, StopsAtOpening, Taken, Tells, TookFrames, WentThroughAll, all_done, ends_of, entries, entries_under, events_over, filter, first_fault, flat, goes_on, incoming_of, is_try, on_circuit, outgoing_of, place_of, place_open, receiver_first, receiver_name, sender_first, sender_name, state_at, takes, waiting}
+use Rattle.gts_circuits.specs.Cited.{AreOpened, AreOver, Beginning, Begun, Circuit, Directory, Engine, Entry, Event, Ghosts as SinkMeanings, HasNoPorts, HasPlace, HavePassed, Incoming, IsAtRest, IsClosed, IsDoneIn, IsFinished, IsHandedBack, IsOpened, IsOver, IsReceived, IsSame, IsSent, IsShutIfClosed, Line, LineStood, LinesSeen, Long, LostSync, MOST_TURNS, NamesAreUpTo, Outgoing, Part, PlaceSeen, ReceiveEnd, Receiver, ReceiverStands, Rose, SendEnd, Sender, ServeEnd, Serves, ServesCircuit, Sockets, SourceFault, SourceMeanings, StationMeanings, StopsAtOpening, Taken, Tells, TookFrames, WentThroughAll, all_done, ends_of, entries, entries_under, events_over, filter, first_fault, flat, goes_on, incoming_of, is_try, on_circuit, outgoing_of, place_of, receiver_first, receiver_name, sender_first, sender_name, state_at, takes, waiting}
 use Rattle.gts_circuits.specs.declared.service.end.ServeEnd.TheVariants.{Done}
 use Rattle.gts_receiver.specs.declared.end.ReceiveEnd.TheVariants.{Ended, Fault}
 use Rattle.gts_receiver.specs.Cited.{settled}
@@ -17,6 +17,7 @@ use Rattle.gts_circuits.proofs.DrainLemmas.{in_both}
 use Rattle.gts_circuits.proofs.RestLemmas.{nothing_there}
 use Rattle.gts_circuits.proofs.StandingLemmas.{rose_from}
 use Rattle.gts_circuits.proofs.TurnsLemmas.{named_flat}
+use Rattle.std.proofs.lemmas.Grind.{common_steps}
 
 -- ---- ends
 
@@ -162,16 +163,12 @@ with_place_of asked mid now d is c at same = ap (λ (l : List PlaceSeen). get_el
 
 -- a row that is closed has a place without ports
 shut_place : (d : Directory) (row : Circuit) → row.closed ≡ true → HasNoPorts (place_of d row)
-shut_place d row shut =
-    subst (λ (b : Bool). HasNoPorts (cond b (record (place_open d row) { input = 0; output = 0; idle = Some 0 }) (place_open d row))) (sym shut) (record { input = refl; output = refl })
+shut_place d row shut = grind (arith, common_steps)
 
 shut_at : (d : Directory) (rows : List Circuit) (c : ℕ) (row : Circuit) (place : PlaceSeen) → get_elem? (map (place_of d) rows) c ≡ some place → get_elem? rows c ≡ some row → row.closed ≡ true
     → HasNoPorts place
 shut_at d [] c row place at is shut = absurd (some-ne-none row (sym is))
-shut_at d (r ∷ rows) zero row place at is shut =
-    let here : r ≡ row = some-injective r row is in
-    let there : place_of d r ≡ place = some-injective (place_of d r) place at in
-    subst HasNoPorts (ap (place_of d) (sym here) ∙ there) (shut_place d row shut)
+shut_at d (r ∷ rows) zero row place at is shut = grind (arith, common_steps, shut_place)
 shut_at d (r ∷ rows) (suc c) row place at is shut = shut_at d rows c row place at is shut
 
 shut_if_closed : (d : Directory) (now : LinesSeen) (c : ℕ) → HasPlace d now c → IsShutIfClosed d now c
@@ -263,9 +260,7 @@ module _ {S K : Type 0} (incoming : SourceMeanings S) (outgoing : SinkMeanings K
         → length earlier + 1 ≡ connections
     all_begun c (Ended rest) r all = r.received.ends.2
     all_begun c (LostSync field at) r all = r.received.ends.2
-    all_begun c SourceFault r all = absurd all
-    all_begun c Long r all = absurd all
-    all_begun c (Fault fault) r all = absurd all
+    all_begun c _ r all = absurd all
 
     circuit : (c : ℕ) (x : Incoming S) (y : Outgoing K) → get_elem? ins c ≡ some x → get_elem? f.sinks c ≡ some y
         → ServesCircuit b incoming outgoing.observed connections threads whole before now c x.end y.end
@@ -336,9 +331,7 @@ module _ {S K : Type 0} (incoming : SourceMeanings S) (outgoing : SinkMeanings K
       received_done : (c : ℕ) (earlier : List Part) (last : Part) (r : ReceiveEnd) → WentThroughAll r → IsReceived b threads whole c connections earlier last r → AllDoneIn (goes_on connections) (entries_under (receiver_name c) whole)
       received_done c earlier last (Ended rest) ok i = settled_done c earlier last (entered b threads whole c connections earlier last (Ended rest) i)
       received_done c earlier last (LostSync field at) ok i = settled_done c earlier last (entered b threads whole c connections earlier last (LostSync field at) i)
-      received_done c earlier last SourceFault ok i = absurd ok
-      received_done c earlier last Long ok i = absurd ok
-      received_done c earlier last (Fault fault) ok i = absurd ok
+      received_done c earlier last _ ok i = absurd ok
 
       sent_done : (c : ℕ) (bytes : List ℕ) (s : SendEnd) → s ≡ sending.Quiet → IsSent b threads whole c bytes s → AllDoneIn (goes_on connections) (entries_under (sender_name c) whole)
       sent_done c bytes s quiet i =

@@ -4,6 +4,7 @@ use Rattle.gts_circuits.specs.Cited.{Accepted, Adds, AreCramped, Asked, Beginnin
 use Rattle.std.proofs.lemmas.List.{append_assoc}
 use Rattle.gts_event.specs.Cited.{begun}
 use Rattle.gts_traits.proofs.LawLemmas.{channel_bytes-on}
+use Rattle.std.proofs.lemmas.Grind.{common_steps}
 
 -- ---- the last of a list
 
@@ -53,44 +54,26 @@ is_one event (Err NoMemory) some = refl
 doubt_of : (event : Event) (others : List Event) (result : Result Outcome SwitchFault) → entry_by event result ≡ Doubt others → IsErrOf result DiskFault
 doubt_of event others (Ok o) e = cc
 doubt_of event others (Err DiskFault) e = refl
-doubt_of event others (Err SayFault) e = cc
-doubt_of event others (Err (Full used need limit)) e = cc
-doubt_of event others (Err (Stopped by)) e = cc
-doubt_of event others (Err Spent) e = cc
-doubt_of event others (Err NoMemory) e = cc
+doubt_of event others _ e = cc
 
 unsaid_of : (event other : Event) (result : Result Outcome SwitchFault) → entry_by event result ≡ Unsaid other → IsErrOf result SayFault
 unsaid_of event other (Ok o) e = cc
 unsaid_of event other (Err DiskFault) e = cc
 unsaid_of event other (Err SayFault) e = refl
-unsaid_of event other (Err (Full used need limit)) e = cc
-unsaid_of event other (Err (Stopped by)) e = cc
-unsaid_of event other (Err Spent) e = cc
-unsaid_of event other (Err NoMemory) e = cc
+unsaid_of event other _ e = cc
 
 full_of : (event : Event) (result : Result Outcome SwitchFault) (other : Event) (used need limit : ℕ) → entry_by event result ≡ Idle other (Full used need limit)
     → (event ≡ other) × (result ≡ Err (Full used need limit))
 full_of event (Ok o) other used need limit e = absurd (cc e)
 full_of event (Err DiskFault) other used need limit e = absurd (cc e)
 full_of event (Err SayFault) other used need limit e = absurd (cc e)
-full_of event (Err (Full at more most)) other used need limit e =
-    let same : event ≡ other = cc e in
-    let fault : ◌≡◌ {A = SwitchFault} (Full at more most) (Full used need limit) = cc e in
-    (same, ap {A = SwitchFault} (λ f. Err f) fault)
-full_of event (Err (Stopped by)) other used need limit e = absurd (cc e)
-full_of event (Err Spent) other used need limit e = absurd (cc e)
-full_of event (Err NoMemory) other used need limit e = absurd (cc e)
+full_of event (Err (Full at more most)) other used need limit e = grind (arith, common_steps)
+full_of event _ other used need limit e = absurd (cc e)
 
 -- a journal is full for accepted bulletins alone
 pub full_accepts : (d : Directory) (s : State) (at : ℕ) (event : Event) (o : Outcome) (fault : SwitchFault) → room d s at event o ≡ Some fault → IsAccepted o
 full_accepts d s at event (Accepted p n) fault is = tt
-full_accepts d s at event (Duplicate position) fault is = absurd (let e : None ≡ Some fault = is in cc e)
-full_accepts d s at event (Asked n m) fault is = absurd (let e : None ≡ Some fault = is in cc e)
-full_accepts d s at event (Refused refusal) fault is = absurd (let e : None ≡ Some fault = is in cc e)
-full_accepts d s at event (LineLost field) fault is = absurd (let e : None ≡ Some fault = is in cc e)
-full_accepts d s at event (Resend index) fault is = absurd (let e : None ≡ Some fault = is in cc e)
-full_accepts d s at event (Draw index) fault is = absurd (let e : None ≡ Some fault = is in cc e)
-full_accepts d s at event Nothing fault is = absurd (let e : None ≡ Some fault = is in cc e)
+full_accepts d s at event _ fault is = absurd (let e : None ≡ Some fault = is in cc e)
 
 -- ---- counts
 
@@ -104,17 +87,13 @@ doubt_rose : (b : ℕ) (h : List Entry) (event : Event) (result : Result Outcome
     → b ≤ old → (HasDoubt h → Rose b old) → old ≤ new → (IsErrOf result DiskFault → Rose old new)
     → HasDoubt (h ++ entry_by event result ∷ []) → Rose b new
 doubt_rose b h event result old new from before later failed (front, other, back, e) =
-    ⊎_elim {C = Rose b new} (λ last. rose_from b old new from (failed (doubt_of event other result last)))
-    (λ earlier. rose_on b old new (before (front, other, earlier.0, earlier.1)) later)
-    (split_last h (entry_by event result) front (Doubt other) back e)
+    grind (arith, common_steps, rose_from, doubt_of, rose_on, split_last)
 
 unsaid_rose : (b : ℕ) (h : List Entry) (event : Event) (result : Result Outcome SwitchFault) (old new : ℕ)
     → b ≤ old → (HasUnsaid h → Rose b old) → old ≤ new → (IsErrOf result SayFault → Rose old new)
     → HasUnsaid (h ++ entry_by event result ∷ []) → Rose b new
 unsaid_rose b h event result old new from before later failed (front, other, back, e) =
-    ⊎_elim {C = Rose b new} (λ last. rose_from b old new from (failed (unsaid_of event other result last)))
-    (λ earlier. rose_on b old new (before (front, other, earlier.0, earlier.1)) later)
-    (split_last h (entry_by event result) front (Unsaid other) back e)
+    grind (arith, common_steps, rose_from, unsaid_of, rose_on, split_last)
 
 -- entries more keep what was in doubt, and what was not said
 pub doubt_on : (h more : List Entry) → HasDoubt h → HasDoubt (h ++ more)
@@ -139,14 +118,7 @@ tells_unsaid h event result e = subst (λ (r : Result Outcome SwitchFault). HasU
 cramped_more : (b : Beginning) (h : List Entry) (event : Event) (result : Result Outcome SwitchFault) → (b.makes_room ≡ true → AreCramped b h)
     → (b.makes_room ≡ true → (used need limit : ℕ) → result ≡ Err (Full used need limit) → IsCrampedFor b h event)
     → b.makes_room ≡ true → AreCramped b (h ++ entry_by event result ∷ [])
-cramped_more b h event result before now makes front other used need limit back is =
-    ⊎_elim {C = IsCrampedFor b front other}
-    (λ last.
-    let there = full_of event result other used need limit last.0 in
-    let C : List Entry → Event → Type 0 = λ es e. IsCrampedFor b es e in
-    subst (C front) there.0 (subst (λ (es : List Entry). C es event) last.1 (now makes used need limit there.1)))
-    (λ earlier. before makes front other used need limit earlier.0 earlier.1)
-    (split_end h (entry_by event result) front (Idle other (Full used need limit)) back is)
+cramped_more b h event result before now makes front other used need limit back is = grind (arith, common_steps, full_of, split_end)
 
 -- what a take comes to, by what it finds
 abbrev pub leads_to : Choice → Outcome

@@ -4,22 +4,18 @@ use Rattle.std.proofs.lemmas.List.{append-nil, replicate_more}
 use Rattle.std.proofs.lemmas.Option.{get_or_from_slice_get, slice_get-map}
 use Rattle.std.specs.Prelude.{IfSome, Option, drop, option_map, slice_get}
 use Rattle.gts_calls.specs.Cited.{frames_in}
-use Rattle.gts_circuits.specs.Cited.{Accepted, AddsTaken, AfterCall, AfterSettling, Alone, AreTaken, Asked, AtOnce, Beginning, Behind, Caller, Choice, Circuit, Device, Directory, DiskFault, Done, Doubt, Draw, Draws, Duplicate, Engine, Entry, Event, Frame, Full, GathersOne, Gave, GaveAll, HasStationCause, HasTaken, Holds, Idle, IsAnswered, IsOneMore, IsSettling, LeavesFrame, LeavesTaken, LineLost, NoMemory, Nothing, Nothing_waits, Origin, Outcome, Refused, Repeats, Resend, SayFault, Says, Spent, Stands, StandsWith, State, StationMeanings, Stopped, SwitchFault, Taken, TakesBehind, after, after_all, after_takes, all_done, choice, count_of, frame_of_draw, frames_by, given_index, gives, joined, meanings_of, origin_with, outcome, shown, state_at, state_behind, takes, used_at}
+use Rattle.gts_circuits.specs.Cited.{Accepted, AddsTaken, AfterCall, AfterSettling, Alone, AreTaken, Asked, AtOnce, Beginning, Behind, Caller, Circuit, Device, Directory, DiskFault, Done, Doubt, Draw, Duplicate, Engine, Entry, Event, Frame, Full, GathersOne, Gave, GaveAll, HasStationCause, HasTaken, Holds, Idle, IsAnswered, IsOneMore, IsSettling, LeavesFrame, LeavesTaken, LineLost, NoMemory, Nothing, Origin, Outcome, Refused, Resend, SayFault, Says, Spent, Stands, StandsWith, State, StationMeanings, Stopped, SwitchFault, Taken, TakesBehind, after, after_all, after_takes, all_done, count_of, frame_of_draw, frames_by, given_index, gives, joined, meanings_of, origin_with, outcome, shown, state_at, state_behind, takes, used_at}
 use Rattle.gts_engine.specs.Cited.{AreGathered}
 use Rattle.gts_event.specs.Cited.{begun}
 use Rattle.gts_circuits.proofs.StandingLemmas.{leads_to, rose_on, full_accepts, frame_said, takes_accept_nothing}
 use Rattle.gts_circuits.proofs.GatheringLemmas.{M, answered, settles}
+use Rattle.std.proofs.lemmas.Grind.{common_steps}
 
 -- ---- what a take came to
 
 -- a take that gave nothing found nothing
 nothing_given : (d : Directory) (s : State) (c : ℕ) → gives (outcome d s (Taken c)) ≡ false → outcome d s (Taken c) ≡ Nothing
-nothing_given d s c none = go (choice d s c) none
-  where
-    go : (ch : Choice) → gives (leads_to ch) ≡ false → leads_to ch ≡ Nothing
-    go (Repeats index) e = absurd (cc e)
-    go (Draws index position) e = absurd (cc e)
-    go Nothing_waits e = refl
+nothing_given d s c none = grind (arith, common_steps, leads_to)
 
 -- the frames of one more
 gave_more : (d : Directory) (s : State) (c : ℕ) (frames : List Frame) (f : Frame) → GaveAll d s c frames → Gave d (after_takes d s c (length frames)) c f → GaveAll d s c (frames ++ f ∷ [])
@@ -49,12 +45,7 @@ most_at rows c row is =
 pub count_more : (frames : List Frame) (o : Outcome) (out : List ℕ) → count_of (frames ++ frames_by o out) (gives o) ≡ length frames + 1
 count_more frames (Resend index) out = length-append frames (record { index = index; text = out } ∷ [])
 count_more frames (Draw index) out = length-append frames (record { index = index; text = out } ∷ [])
-count_more frames (Accepted p n) out = ap (λ (l : List Frame). length l + 1) (append-nil frames)
-count_more frames (Duplicate position) out = ap (λ (l : List Frame). length l + 1) (append-nil frames)
-count_more frames (Asked n m) out = ap (λ (l : List Frame). length l + 1) (append-nil frames)
-count_more frames (Refused refusal) out = ap (λ (l : List Frame). length l + 1) (append-nil frames)
-count_more frames (LineLost field) out = ap (λ (l : List Frame). length l + 1) (append-nil frames)
-count_more frames Nothing out = ap (λ (l : List Frame). length l + 1) (append-nil frames)
+count_more frames _ out = ap (λ (l : List Frame). length l + 1) (append-nil frames)
 
 -- what is known of the frames with one take more, whose outcome is this
 module _ (d : Directory) (s : State) (c : ℕ) (frames : List Frame) (o : Outcome) (out : List ℕ) (all : GaveAll d s c frames)
@@ -74,12 +65,7 @@ module _ (d : Directory) (s : State) (c : ℕ) (frames : List Frame) (o : Outcom
       go : (p : Outcome) → o ≡ p → LeavesFrame d c out p t → GaveAll d s c (frames ++ frames_by p out)
       go (Resend index) e l = gave_more d s c frames (record { index = index; text = out }) all (one index (ap given_index e) l)
       go (Draw index) e l = gave_more d s c frames (record { index = index; text = out }) all (one index (ap given_index e) l)
-      go (Accepted p n) e l = none
-      go (Duplicate position) e l = none
-      go (Asked n m) e l = none
-      go (Refused refusal) e l = none
-      go (LineLost field) e l = none
-      go Nothing e l = none
+      go _ e l = none
 
   pub last_more : gives o ≡ false → outcome d (after_takes d s c (length (frames ++ frames_by o out))) (Taken c) ≡ Nothing
   last_more none =
@@ -89,12 +75,7 @@ module _ (d : Directory) (s : State) (c : ℕ) (frames : List Frame) (o : Outcom
       same : (p : Outcome) → gives p ≡ false → length (frames ++ frames_by p out) ≡ length frames
       same (Resend index) e = absurd (cc e)
       same (Draw index) e = absurd (cc e)
-      same (Accepted p n) e = ap length (append-nil frames)
-      same (Duplicate position) e = ap length (append-nil frames)
-      same (Asked n m) e = ap length (append-nil frames)
-      same (Refused refusal) e = ap length (append-nil frames)
-      same (LineLost field) e = ap length (append-nil frames)
-      same Nothing e = ap length (append-nil frames)
+      same _ e = ap length (append-nil frames)
 
 module _ {P : Type 0} (station : StationMeanings P) (b : Beginning) (h : List Entry) (c : ℕ) where
   abbrev d : Directory
@@ -291,7 +272,4 @@ module _ {P : Type 0} (station : StationMeanings P) (b : Beginning) (h : List En
           → (IsErrOf (let a : Result (Unit {0}) SwitchFault = Err f in a) SayFault → ⊥) → (more : List Entry) × LeavesTaken station b h c [] (Err f) new more
       go DiskFault a n = doubt a.some a.leaves.0 (count_of frames gave) few t.taken
       go SayFault a n = absurd (n refl)
-      go (Full used need limit) a n = absurd a
-      go (Stopped by) a n = absurd a
-      go Spent a n = absurd a
-      go NoMemory a n = absurd a
+      go _ a n = absurd a

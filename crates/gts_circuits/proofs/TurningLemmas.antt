@@ -97,10 +97,7 @@ module _ {P : Type 0} (station : StationMeanings P) (b : Beginning)
       go (Ok false) x = (said (takes c (length frames + 1)) (λ s. GaveNoMore b.origin.directory s c frames) x.0 x.1, x.2)
       go (Err DiskFault) x = (x.2, record { beside = x.0; few = x.1; added = plain (Doubt (Taken c ∷ replicate x.0 (Taken c)) ∷ []) x.3 })
       go (Err (Stopped by)) x = (x.0, plain (Idle (Taken c) (Stopped by) ∷ []) x.1)
-      go (Err SayFault) x = absurd x
-      go (Err (Full used need limit)) x = absurd x
-      go (Err Spent) x = absurd x
-      go (Err NoMemory) x = absurd x
+      go _ x = absurd x
 
 -- the desk of the pass answers what the turn answered, a take's too
 turned : {P : Type 0} (station : StationMeanings P) (b : Beginning) (event : Event)

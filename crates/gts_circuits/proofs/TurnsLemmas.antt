@@ -1,9 +1,11 @@
 -- Turns of a hall, and the entries that they added.
-use Rattle.std.proofs.Common.{◌≡◌, ◌≤◌, ◌<◌, ◌==◌, ℕ, zero, suc, Bool, true, false, length, List, [], ◌∷◌, inl, inr, map, refl, sym, ap, subst}
+use Rattle.std.proofs.Common.{◌≡◌, ◌≤◌, ◌<◌, ℕ, zero, suc, length, List, [], ◌∷◌, inl, inr, map, refl, sym, ap, subst}
 use mathlib.Core.Option.{some, some-injective, some-ne-none}
 use lib.ListN.{get_elem?}
 use Rattle.gts_circuits.specs.Cited.{Entry, NamesAreUpTo, entries_under, flat, under}
 use Rattle.gts_circuits.proofs.DrainLemmas.{in_both}
+use Rattle.std.proofs.lemmas.Grind.{common_steps}
+use Rattle.std.proofs.Common.{arith}
 
 -- ---- the names
 
@@ -31,9 +33,4 @@ flat_turns (x ∷ history) = ap (λ (l : List (ℕ × Entry)). x ∷ l) (flat_tu
 
 pub count_turns : (n : ℕ) (history : List (ℕ × Entry)) → length (entries_under n (as_turns history)) ≡ length (entries_under n history)
 count_turns n [] = refl
-count_turns n (x ∷ history) = go (count_turns n history) (x.0 == n) refl
-  where
-    go : length (entries_under n (as_turns history)) ≡ length (entries_under n history) → (b : Bool) → (x.0 == n) ≡ b
-        → length (entries_under n (as_turns (x ∷ history))) ≡ length (entries_under n (x ∷ history))
-    go rest true e = rw e (ap suc rest)
-    go rest false e = rw e rest
+count_turns n (x ∷ history) = grind (arith, common_steps, count_turns n history)

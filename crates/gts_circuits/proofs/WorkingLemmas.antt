@@ -5,5 +5,4 @@ use Rattle.gts_circuits.specs.Cited.{Fault, GoesOn, LineFault, Quiet, Seen, Send
 -- a sender's history goes on, however it ends
 pub sends-on : (c : ℕ) (old new : Seen) (bytes : List ℕ) (end : SendEnd) → Sends c old new bytes end → GoesOn old new
 sends-on c old new bytes Quiet s = s.0.desk
-sends-on c old new bytes (LineFault index) s = s.desk
-sends-on c old new bytes (Fault fault) s = s.desk
+sends-on c old new bytes _ s = s.desk

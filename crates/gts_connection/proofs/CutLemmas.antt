@@ -1,37 +1,20 @@
 -- Captures that differ only in how feeds are cut have the same entries.
-use Rattle.std.proofs.Common.{◌≡◌, ℕ, ◌<◌, Bool, true, false, ◌==◌, cond, List, [], ◌∷◌, ◌++◌, length, get_or, set, refl, sym, ap, ◌∙◌, arith}
+use Rattle.std.proofs.Common.{◌≡◌, ℕ, ◌<◌, List, [], ◌∷◌, ◌++◌, length, get_or, refl, sym, ap, ◌∙◌, arith}
 use Rattle.std.proofs.lemmas.Bool.{eqb-true}
 use Rattle.std.proofs.lemmas.List.{append_assoc, map-append, set-set, get_or-set_same, length-set, length-map}
-use Rattle.gts_connection.specs.Cited.{AreSteps, Compact, Connections, Directory, Done, Drain, Entry, Event, Feed, Reopen, Restart, State, Step, Take, after_all, after_step, all_done, entries, entries_from, entries_of_step, events_added, join, joined, no_bytes, with_bytes}
+use Rattle.gts_connection.specs.Cited.{AreSteps, Compact, Connections, Directory, Drain, Entry, Feed, Reopen, Restart, State, Step, Take, after_all, after_step, entries, entries_from, entries_of_step, join, joined, no_bytes}
 use Rattle.gts_connection.proofs.StreamLemmas.{added-twice}
 use Rattle.gts_event.proofs.LawLemmas.{after_all-append}
+use Rattle.std.proofs.lemmas.Grind.{common_steps}
 
 -- one feed or two
 cut_feed : (d : Directory) (s : State) (bs : Connections) (c : ℕ) (x y : List ℕ) (steps : List Step) → c < length bs
     → entries_from d s bs (Feed c (x ++ y) ∷ steps) ≡ entries_from d s bs (Feed c x ∷ Feed c y ∷ steps)
-cut_feed d s bs c x y steps lt =
-    let b : List ℕ = get_or bs c [] in
-    let first : List Entry = all_done (events_added c b x) in
-    let then_on : List ℕ → List Entry = λ before. all_done (events_added c before y) in
-    let second : List Entry = then_on (b ++ x) in
-    let now : get_or (with_bytes bs c x) c [] ≡ b ++ x = get_or-set_same bs c (b ++ x) [] lt in
-    let bytes : with_bytes bs c (x ++ y) ≡ with_bytes (with_bytes bs c x) c y =
-    ap (set bs c) (sym (append_assoc b x y)) ∙ sym (set-set bs c (b ++ x) (b ++ x ++ y)) ∙ ap (λ (xs : List ℕ). set (with_bytes bs c x) c (xs ++ y)) (sym now) in
-    let all : all_done (events_added c b (x ++ y)) ≡ first ++ second = ap all_done (added-twice c b x y) ∙ map-append (λ (e : Event). Done e) (events_added c b x) (events_added c (b ++ x) y) in
-    let rest : List Entry → Connections → List Entry = λ es cs. es ++ entries_from d (after_all d s es) cs steps in
-    ap (λ (es : List Entry). rest es (with_bytes bs c (x ++ y))) all
-    ∙ ap (rest (first ++ second)) bytes
-    ∙ ap (λ (t : State). first ++ second ++ entries_from d t (with_bytes (with_bytes bs c x) c y) steps) (after_all-append d s first second)
-    ∙ append_assoc first second (entries_from d (after_all d (after_all d s first) second) (with_bytes (with_bytes bs c x) c y) steps)
-    ∙ ap (λ (before : List ℕ). first ++ (then_on before ++ entries_from d (after_all d (after_all d s first) (then_on before)) (with_bytes (with_bytes bs c x) c y) steps)) (sym now)
+cut_feed d s bs c x y steps lt = grind (arith, common_steps, get_or-set_same, append_assoc, set-set, added-twice, map-append, after_all-append)
 
 join_feeds : (d : Directory) (s : State) (bs : Connections) (c e : ℕ) (x y : List ℕ) (steps : List Step) → c < length bs
     → entries_from d s bs (join (Feed c x) (Feed e y ∷ steps)) ≡ entries_from d s bs (Feed c x ∷ Feed e y ∷ steps)
-join_feeds d s bs c e x y steps lt = go (c == e) refl
-  where
-    go : (b : Bool) → (c == e) ≡ b → entries_from d s bs (cond b (Feed c (x ++ y) ∷ steps) (Feed c x ∷ Feed e y ∷ steps)) ≡ entries_from d s bs (Feed c x ∷ Feed e y ∷ steps)
-    go true h = cut_feed d s bs c x y steps lt ∙ ap (λ (n : ℕ). entries_from d s bs (Feed c x ∷ Feed n y ∷ steps)) (eqb-true c e h)
-    go false h = refl
+join_feeds d s bs c e x y steps lt = grind (arith, common_steps, cut_feed, eqb-true)
 
 join_same : (d : Directory) (s : State) (bs : Connections) (step : Step) (steps : List Step) → length bs ≡ length d.circuits → AreSteps d (step ∷ [])
     → entries_from d s bs (join step steps) ≡ entries_from d s bs (step ∷ steps)

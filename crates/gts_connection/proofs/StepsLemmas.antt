@@ -1,9 +1,11 @@
 -- The events of a connection are those of the signs that its bytes show.
-use Rattle.std.proofs.Common.{◌≡◌, ℕ, zero, suc, ◌+◌, Bool, true, false, ◌==◌, cond, List, [], ◌∷◌, ◌++◌, length, drop, take, Option, Some, None, refl, sym, ap, ◌∙◌, find, not, nat_eq}
-use Rattle.gts_connection.specs.Cited.{An, Bi, Breaks, Carries, Decoding, Event, Frame, FrameField, Fx, Heard, IsFramed, KeepAlive, KeepsAlive, Kind, Lost, Piece, ReadsOn, Sign, break_at, break_of, connection, event_at, events_added, events_in, events_of, events_of_signs, field_at, frame, has_piece, is_front, length_in, letters, loss_at, loss_of, range_with_len, sign_at, signs_from, signs_in, signs_of, signs_of_step, starts_with}
+use Rattle.std.proofs.Common.{◌≡◌, ℕ, zero, suc, ◌+◌, Bool, true, false, ◌==◌, cond, List, [], ◌∷◌, ◌++◌, length, drop, take, Option, Some, None, refl, sym, ap, ◌∙◌, find, nat_eq}
+use Rattle.gts_connection.specs.Cited.{An, Bi, Breaks, Carries, Decoding, Event, Frame, FrameField, Fx, Heard, IsFramed, KeepAlive, KeepsAlive, Kind, Lost, Piece, ReadsOn, Sign, break_at, break_of, connection, event_at, events_added, events_in, events_of, events_of_signs, frame, has_piece, length_in, letters, loss_at, loss_of, sign_at, signs_from, signs_in, signs_of, signs_of_step, starts_with}
 use Rattle.gts_frame.specs.declared.step.Step.{Step}
 use Rattle.std.proofs.Math.Seq.{drop-append_seam}
 use Rattle.gts_frame.proofs.LawLemmas.{signs-piece}
+use Rattle.std.proofs.lemmas.Grind.{common_steps}
+use Rattle.std.proofs.Common.{arith}
 
 pub signs-append : (c : ℕ) (xs ys : List Sign) → events_of_signs c (xs ++ ys) ≡ events_of_signs c xs ++ events_of_signs c ys
 signs-append c [] ys = refl
@@ -22,10 +24,7 @@ events-break c (Some field) = refl
 
 -- the signs of pieces and of a loss are their events
 pub events-shown : (c : ℕ) (ps : List Piece) (field : Option FrameField) → events_of_signs c (signs_of ps ++ break_of field) ≡ events_of c ps ++ loss_of c field
-events-shown c ps field =
-    signs-append c (signs_of ps) (break_of field)
-    ∙ ap (λ (es : List Event). es ++ events_of_signs c (break_of field)) (events-pieces c ps)
-    ∙ ap (λ (es : List Event). events_of c ps ++ es) (events-break c field)
+events-shown c ps field = grind (arith, common_steps, signs-append, events-pieces, events-break)
 
 event-sign : (c : ℕ) (bytes : List ℕ) → event_at c bytes ≡ events_of_signs c (sign_at bytes)
 event-sign c bytes = go (find (λ kind. starts_with nat_eq (drop 8 bytes) (letters kind)) (An ∷ Bi ∷ Fx ∷ []))
@@ -41,12 +40,7 @@ event-sign c bytes = go (find (λ kind. starts_with nat_eq (drop 8 bytes) (lette
     go (Some kind) = by_size kind (length_in bytes == 0)
 
 loss-break : (c : ℕ) (bytes : List ℕ) → loss_at c bytes ≡ events_of_signs c (break_at bytes)
-loss-break c bytes = go (find (λ n. not (is_front (take n bytes))) (range_with_len 1 (length bytes)))
-  where
-    go : (o : Option ℕ) → elim o as (λ _. List Event) [ None ↦ [] | Some n ↦ Lost c (field_at n) ∷ [] ]
-        ≡ events_of_signs c (elim o as (λ _. List Sign) [ None ↦ [] | Some n ↦ Breaks (field_at n) ∷ [] ])
-    go None = refl
-    go (Some n) = refl
+loss-break c bytes = grind (arith, common_steps)
 
 events-signs : (c n : ℕ) (bytes : List ℕ) → events_in c n bytes ≡ events_of_signs c (signs_from n bytes)
 events-signs c zero bytes = refl
@@ -73,9 +67,7 @@ events-frame c n kind message rest h =
 -- what more signs there are, the events have more
 pub added-more : (c : ℕ) (before more : List ℕ) (signs : List Sign) → signs_in (before ++ more) ≡ signs_in before ++ signs
     → connection c (before ++ more) ≡ connection c before ++ events_of_signs c signs
-added-more c before more signs e =
-    connection-signs c (before ++ more) ∙ ap (events_of_signs c) e ∙ signs-append c (signs_in before) signs
-    ∙ ap (λ (es : List Event). es ++ events_of_signs c signs) (sym (connection-signs c before))
+added-more c before more signs e = grind (arith, common_steps, connection-signs, signs-append)
 
 pub added-signs : (c : ℕ) (before taken : List ℕ) (step : Step) (now : Decoding) → ReadsOn before taken step now → events_added c before taken ≡ events_of_signs c (signs_of_step step now.message)
 added-signs c before taken step now r =

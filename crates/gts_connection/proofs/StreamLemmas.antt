@@ -5,6 +5,8 @@ use Rattle.std.proofs.lemmas.List.{append-nil, append_assoc, append_cancel_left}
 use Rattle.std.proofs.Math.Seq.{drop-append_seam}
 use Rattle.gts_frame.proofs.LawLemmas.{shows-computed, shows-one, open-front, front-open, reads-open, reads-lost}
 use Rattle.gts_connection.proofs.StepsLemmas.{events-shown, connection-signs, added-more}
+use Rattle.std.proofs.lemmas.Grind.{common_steps}
+use Rattle.std.proofs.Common.{arith}
 
 -- ---- the events of bytes
 
@@ -46,11 +48,7 @@ connection-added c before more =
 
 -- what two pieces of bytes add is what they add one after the other
 pub added-twice : (c : ℕ) (before x y : List ℕ) → events_added c before (x ++ y) ≡ events_added c before x ++ events_added c (before ++ x) y
-added-twice c before x y =
-    append_cancel_left (connection c before) (events_added c before (x ++ y)) (events_added c before x ++ events_added c (before ++ x) y)
-    (sym (connection-added c before (x ++ y)) ∙ ap (connection c) (sym (append_assoc before x y)) ∙ connection-added c (before ++ x) y
-    ∙ ap (λ (es : List Event). es ++ events_added c (before ++ x) y) (connection-added c before x)
-    ∙ append_assoc (connection c before) (events_added c before x) (events_added c (before ++ x) y))
+added-twice c before x y = grind (arith, common_steps, append_cancel_left, connection-added, append_assoc)
 
 -- ---- a loss
 

@@ -2,6 +2,7 @@ ghost use Rattle.std.specs.Prelude.{◌≡◌, ◌≤◌, Ok, count_ones};
 ghost use Rattle.gts_core.specs.Cited.{IsDigestOf, Reads, digest_of, fields_of, message_weighed, parts_of, split_at};
 
 use gts_directory::CircuitSet;
+use gts_frame::Kind;
 use gts_heading::MessageField;
 use gts_message::{Message, SplitMessage};
 use std::marker::Model;
@@ -96,4 +97,12 @@ impl<'m> Bulletin<'m> {
     {
         self.named.count()
     }
+}
+
+/// A new bulletin as it was received: on which circuit, and in a frame of which type.
+#[derive(Clone, Copy)]
+pub(crate) struct Received<'a, 'm> {
+    pub(crate) c: u32,
+    pub(crate) kind: Kind,
+    pub(crate) bulletin: &'a Bulletin<'m>,
 }

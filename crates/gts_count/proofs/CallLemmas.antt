@@ -120,10 +120,7 @@ module _ {O T : Type 0} (meanings : Standing O T) where
     counted_settling (Ok u) noted counts a = counted_settled a (same_after d s entries old.counting new.counting noted counts)
     counted_settling (Err DiskFault) noted counts a = counted_doubt (outdated_after old.counting new.counting noted) a
     counted_settling (Err SayFault) noted counts a = counted_cut (outdated_after old.counting new.counting noted) a
-    counted_settling (Err (Full used need limit)) noted counts a = absurd a
-    counted_settling (Err (Stopped by)) noted counts a = absurd a
-    counted_settling (Err Spent) noted counts a = absurd a
-    counted_settling (Err NoMemory) noted counts a = absurd a
+    counted_settling _ noted counts a = absurd a
 
     pub counted_answer : (event : Event) (result : Result Outcome SwitchFault) → GoesOn d s entries event result new.counting → AfterCall meanings o entries events event result new.switch
         → AfterCall (counted_meanings meanings) o entries events event result new
@@ -242,19 +239,13 @@ module _ {O T : Type 0} (meanings : Standing O T) where
       adds : (o : O) (entries : List Entry) (events : List Event) (f : SwitchFault) → AfterSettling (counted_meanings meanings) o entries events (Err f) new → AfterCall (counted_meanings meanings) o entries events event (Err f) new
       adds o entries events DiskFault a = a
       adds o entries events SayFault a = inl a
-      adds o entries events (Full used need limit) a = absurd a
-      adds o entries events (Stopped by) a = absurd a
-      adds o entries events Spent a = absurd a
-      adds o entries events NoMemory a = absurd a
+      adds o entries events _ a = absurd a
 
       caused : (o : O) (entries : List Entry) (events : List Event) (f : SwitchFault) → AfterSettling (counted_meanings meanings) o entries events (Err f) new
           → (let h : List Entry = entries ++ all_done events in IsAnswerCause (meanings.is_full o h event) h (outcome_at meanings old.switch o h event) f)
       caused o entries events DiskFault a = tt
       caused o entries events SayFault a = tt
-      caused o entries events (Full used need limit) a = absurd a
-      caused o entries events (Stopped by) a = absurd a
-      caused o entries events Spent a = absurd a
-      caused o entries events NoMemory a = absurd a
+      caused o entries events _ a = absurd a
 
   pub counted_reopening : (observed : Type 0) (result : Result (Unit {0}) OpenFault) (old new : CountedParts T) → new.counting ≡ old.counting → IsReopening meanings observed result old.switch new.switch → IsReopening (counted_meanings meanings) observed result old new
   counted_reopening observed result old new same r = record {

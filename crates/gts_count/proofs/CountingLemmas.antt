@@ -1,6 +1,6 @@
 -- What is kept beside a switch, by what the switch answers.
 use Rattle.std.proofs.Common.{◌≡◌, ℕ, suc, ◌<◌, ◌⊎◌, inl, inr, Bool, true, false, ◌&&◌, cond, List, [], ◌∷◌, ◌++◌, length, reverse, Option, Some, None, Result, Ok, Err, refl, sym, ap, subst, ◌∙◌, arith, append_assoc, IsTrue, nat_eq, take}
-use Rattle.gts_count.specs.Cited.{Accepted, AfterAccepted, AfterHeard, All, Arrival, Asked, Buffer, Bulletin, CanNote, Circuit, Counting, Counts, CountsIf, Directory, DiskFault, Doubt, Draw, Duplicate, Entry, Follows, Full, GoesOn, HasDoubt, HasUnsaid, HeadingFields, Heard, IsAccepted, IsReady, IsTold, KeepsRest, Kind, Knows, LineLost, Message, MessageField, MessageParts, NoMemory, Notes, Nothing, Numbers, Outcome, Prepares, Refused, Resend, SayFault, Spent, State, Stopped, SwitchFault, Unsaid, WasRead, after, answer_to, arrived, body_of, duplicate, find, has_row, heading_of, heading_text, heard_of, is_recent, is_same_heading, key_of, named, outcome, outdated, pointwise, text_of, verdict}
+use Rattle.gts_count.specs.Cited.{Accepted, AfterAccepted, AfterHeard, All, Arrival, Asked, Bulletin, CanNote, Counting, Counts, CountsIf, Directory, DiskFault, Doubt, Draw, Duplicate, Entry, Follows, Full, GoesOn, HasDoubt, HasUnsaid, HeadingFields, Heard, IsAccepted, IsReady, IsTold, KeepsRest, Kind, Knows, LineLost, NoMemory, Notes, Nothing, Numbers, Outcome, Prepares, Refused, Resend, SayFault, Spent, State, Stopped, SwitchFault, Unsaid, WasRead, after, arrived, body_of, duplicate, find, has_row, heading_of, heading_text, heard_of, is_recent, is_same_heading, key_of, named, outcome, outdated, pointwise, text_of}
 use Rattle.std.proofs.lemmas.Bool.{true≢false, and_parts}
 use Rattle.std.proofs.lemmas.List.{length-map, reverse-append}
 use Rattle.std.proofs.lemmas.List.Elements.{All-append}
@@ -9,14 +9,13 @@ use Rattle.gts_count.proofs.SoundLemmas.{single}
 use Rattle.gts_count.proofs.KeyLemmas.{key_message}
 use Rattle.gts_count.proofs.FollowLemmas.{follows_heard, follows_prepared, follows_accepted}
 use Rattle.gts_frame.proofs.LawLemmas.{same_from_pointwise as same_numbers}
+use Rattle.std.proofs.lemmas.Grind.{common_steps}
 
 pub current_counts : (d : Directory) (s : State) (h : List Entry) (c : Counting) → c.current ≡ true → Counts d s h c → Knows d c × Follows d s c.numbers
 current_counts d s h c is counts = subst (λ (b : Bool). CountsIf b d s h c) is counts
 
 pub circuits_of : (d : Directory) (s : State) (n : Numbers) → Follows d s n → (length n.drawn.items ≡ length d.circuits) × (length n.came.items ≡ length d.circuits)
-circuits_of d s n f =
-    let size : length n.drawn.items ≡ length d.circuits = sym (length-map n.drawn.items (λ (r : Buffer (List ℕ)). r.capacity)) ∙ ap length f.kept ∙ length-map d.circuits (λ (row : Circuit). row.kept) in
-    (size, sym f.sound.circuits.0 ∙ size)
+circuits_of d s n f = grind (arith, common_steps, length-map)
 
 -- ---- a message whose key has no row would be accepted
 
@@ -51,10 +50,7 @@ no_twin d t rows h text all none = go (duplicate d t h text) refl
         absurd (true≢false (sym twin.0 ∙ ap (λ (x : List ℕ). rows (take 11 x)) same ∙ none))
 
 outcome_read : (d : Directory) (t : State) (c : ℕ) (kind : Kind) (m : List ℕ) (w : WasRead d m) → duplicate d t w.parts.heading w.parts.text ≡ None → outcome d t (Heard c kind m) ≡ Accepted t.count (length (named d c w.parts.heading))
-outcome_read d t c kind m w none =
-    ap (λ (r : Result MessageParts MessageField). elim r as (λ _. Outcome) [ Err field ↦ Refused (Message field) | Ok parts ↦ verdict d t c parts ]) w.read
-    ∙ ap (λ (b : Bool). cond b (answer_to d t c (Rattle.gts_request.specs.Request.request_at w.parts.text)) (elim (duplicate d t w.parts.heading w.parts.text) as (λ _. Outcome) [ Some b ↦ Duplicate b.position | None ↦ Accepted t.count (length (named d c w.parts.heading)) ])) w.other
-    ∙ ap (λ (o : Option Bulletin). elim o as (λ _. Outcome) [ Some b ↦ Duplicate b.position | None ↦ Accepted t.count (length (named d c w.parts.heading)) ]) none
+outcome_read d t c kind m w none = grind (arith, common_steps)
 
 pub left_accepted : (d : Directory) (s : State) (n : Numbers) (c : ℕ) (kind : Kind) (m : List ℕ) → Follows d s n → WasRead d m → has_row n.rows (key_of (body_of m)) ≡ false → IsAccepted (outcome d s (Heard c kind m))
 left_accepted d s n c kind m f w none =
@@ -83,12 +79,7 @@ counts_failed d s h c is failed = subst (λ (b : Bool). CountsIf b d s h c) (sym
 
 -- another state, and other numbers, as long as they are current
 pub carried_by : (d : Directory) (s s' : State) (h : List Entry) (old new : Counting) → KeepsRest old new → (old.current ≡ true → Knows d old → Follows d s old.numbers → Follows d s' new.numbers) → Counts d s h old → Counts d s' h new
-carried_by d s s' h old new rest step counts =
-    subst (λ (b : Bool). CountsIf b d s' h new) (sym rest.current) (go old.current refl counts)
-  where
-    go : (b : Bool) → old.current ≡ b → CountsIf b d s h old → CountsIf b d s' h new
-    go true is (knows, follows) = (record { centre = rest.centre ∙ knows.centre; digits = ap (λ v. v.items) rest.digits ∙ knows.digits }, step is knows follows)
-    go false is failed = failed
+carried_by d s s' h old new rest step counts = grind (arith, common_steps)
 
 pub carried : (d : Directory) (s s' : State) (h : List Entry) (old new : Counting) → KeepsRest old new → (old.current ≡ true → Follows d s old.numbers → Follows d s' new.numbers) → Counts d s h old → Counts d s' h new
 carried d s s' h old new rest step counts = carried_by d s s' h old new rest (λ is knows f. step is f) counts
@@ -142,7 +133,4 @@ module _ (d : Directory) (s : State) (h : List Entry) where
   counts_heard old new c kind m ready (Ok Nothing) here readies note told noted counts = unaccepted_after old new c kind m Nothing here (told Nothing refl) (λ q k e. cc e) noted counts
   counts_heard old new c kind m ready (Err DiskFault) here readies note told noted counts = outdated_after old new noted
   counts_heard old new c kind m ready (Err SayFault) here readies note told noted counts = outdated_after old new noted
-  counts_heard old new c kind m ready (Err (Full a b l)) here readies note told noted counts = same_after d s h old new noted counts
-  counts_heard old new c kind m ready (Err (Stopped by)) here readies note told noted counts = same_after d s h old new noted counts
-  counts_heard old new c kind m ready (Err Spent) here readies note told noted counts = same_after d s h old new noted counts
-  counts_heard old new c kind m ready (Err NoMemory) here readies note told noted counts = same_after d s h old new noted counts
+  counts_heard old new c kind m ready _ here readies note told noted counts = same_after d s h old new noted counts

@@ -1,6 +1,6 @@
 -- The running numbers follow a history, entry by entry.
-use Rattle.std.proofs.Common.{◌≡◌, ℕ, suc, ◌+◌, ◌<◌, ◌≤◌, Bool, true, false, ◌&&◌, ◌==◌, cond, inl, inr, List, [], ◌∷◌, ◌++◌, length, get_or, set, drop, map, filter, Option, Some, refl, sym, ap, subst, ◌∙◌, arith, IsTrue}
-use Rattle.gts_count.specs.Cited.{Accepted, All, Asked, Buffer, Bulletin, Choice, Circuit, CircuitState, Directory, Done, Draw, Draws, Duplicate, Event, Follows, Heard, IsHeld, Kind, LineLost, Notes, NotesDraw, Nothing, Nothing_waits, Numbers, Outcome, Prepares, Recent, Refused, Repeats, Resend, Restarted, SameNeed, State, Taken, Tally, after, after_heard, after_take, arrived, body_of, choice, circuit_of_event, drawn_of, find, found, has, has_row, heading_of_message, heard_of, is_here, is_recent, is_there, items_of, joined, keep_last, kept_with, key_at, key_of, last_counted, list_all, named, need, no_ring, on_circuit, outcome, places, recent, recent_in, recent_of, restarted, ring_at, takens_of, tally, tally_at, tally_of, with_drawn}
+use Rattle.std.proofs.Common.{◌≡◌, ℕ, suc, ◌+◌, ◌<◌, ◌≤◌, Bool, true, false, ◌&&◌, ◌==◌, cond, inl, inr, List, [], ◌∷◌, ◌++◌, length, get_or, set, map, Option, Some, refl, sym, ap, subst, ◌∙◌, arith, IsTrue}
+use Rattle.gts_count.specs.Cited.{Accepted, All, Asked, Buffer, Bulletin, Choice, Circuit, CircuitState, Directory, Done, Draw, Draws, Duplicate, Event, Follows, Heard, IsHeld, Kind, LineLost, Notes, NotesDraw, Nothing, Nothing_waits, Numbers, Outcome, Prepares, Recent, Refused, Repeats, Resend, Restarted, SameNeed, State, Taken, Tally, after, after_heard, after_take, arrived, body_of, choice, circuit_of_event, drawn_of, find, has, has_row, heading_of_message, heard_of, is_here, is_there, joined, keep_last, kept_with, key_at, key_of, last_counted, list_all, named, need, no_ring, on_circuit, outcome, recent, recent_in, recent_of, restarted, ring_at, takens_of, tally, tally_at, tally_of, with_drawn}
 use Rattle.gts_event.specs.History.{with_bulletin}
 use Rattle.std.proofs.lemmas.Bool.{true≢false, lt-ltb, or_cases}
 use Rattle.std.proofs.lemmas.List.{get_or-map, set-get_or, map-set, length-map}
@@ -10,6 +10,7 @@ use Rattle.gts_count.proofs.WindowLemmas.{counts_window, joins_window}
 use Rattle.gts_count.proofs.StateLemmas.{tally-need, tally_is, takens-routed, takens-same, takens-restarted, drawn-drew, drawn-more}
 use Rattle.gts_count.proofs.StepLemmas.{held_window, joined_last}
 use Rattle.gts_count.proofs.SoundLemmas.{single}
+use Rattle.std.proofs.lemmas.Grind.{common_steps}
 
 -- what is counted of a state depends on these alone
 record Quiet (t u : State) : Type 0 where
@@ -18,30 +19,18 @@ record Quiet (t u : State) : Type 0 where
   takens : takens_of u ≡ takens_of t
 
 tally-quiet : (d : Directory) (t u : State) → Quiet t u → tally_at d u ≡ tally_at d t
-tally-quiet d t u q = tally_is (tally_at d u) (tally_at d t)
-    (ap (λ (bs : List Bulletin). map recent_of (filter (λ b. is_recent d u.count b.position) bs)) q.accepted
-    ∙ ap (λ (n : ℕ). map recent_of (filter (λ b. is_recent d n b.position) t.accepted)) q.count)
-    (ap (λ (bs : List Bulletin). drawn_of d.circuits bs (takens_of u)) q.accepted ∙ ap (drawn_of d.circuits t.accepted) q.takens)
+tally-quiet d t u q = grind (arith, common_steps, tally_is)
 
 still : (t : State) → Quiet t t
 still t = record { count = refl; accepted = refl; takens = refl }
 
 quiet_heard : (d : Directory) (t : State) (c : ℕ) (kind : Kind) (m : List ℕ) (o : Outcome) → ((p n : ℕ) → o ≡ Accepted p n → ⊥) → Quiet t (after_heard d t c kind m o)
 quiet_heard d t c kind m (Accepted p n) none = absurd (none p n refl)
-quiet_heard d t c kind m (Asked n k) none =
-    let q : CircuitState = on_circuit t c in
-    record { count = refl; accepted = refl; takens = takens-same t.circuits c (record q { owed = q.owed ++ found (places d t c (items_of m)) }) refl }
-quiet_heard d t c kind m (Duplicate p) none = still t
-quiet_heard d t c kind m (Refused r) none = still t
-quiet_heard d t c kind m (LineLost field) none = still t
-quiet_heard d t c kind m (Resend i) none = still t
-quiet_heard d t c kind m (Draw i) none = still t
-quiet_heard d t c kind m Nothing none = still t
+quiet_heard d t c kind m (Asked n k) none = grind (arith, common_steps, takens-same)
+quiet_heard d t c kind m _ none = still t
 
 quiet_take : (t : State) (c : ℕ) (ch : Choice) → ((i p : ℕ) → ch ≡ Draws i p → ⊥) → Quiet t (after_take t c ch)
-quiet_take t c (Repeats i) none =
-    let q : CircuitState = on_circuit t c in
-    record { count = refl; accepted = refl; takens = takens-same t.circuits c (record q { owed = drop 1 q.owed }) refl }
+quiet_take t c (Repeats i) none = grind (arith, common_steps, takens-same)
 quiet_take t c (Draws i p) none = absurd (none i p refl)
 quiet_take t c Nothing_waits none = still t
 

@@ -1,6 +1,6 @@
 -- The key of a bulletin is its first eleven bytes, and stands so in its frames.
 use Rattle.std.proofs.Common.{◌≡◌, ℕ, ◌+◌, ◌<◌, ◌≤◌, true, ◌==◌, cond, List, [], ◌∷◌, ◌++◌, length, set, take, drop, Option, Some, None, Result, Ok, Err, refl, sym, ap, ◌∙◌, arith, length-append, is_ok}
-use Rattle.gts_count.specs.Cited.{Bulletin, Choice, CircuitState, Directory, Draws, EOL, HeadingFields, IsBody, IsHeading, Kind, MessageField, MessageParts, Nothing_waits, Outside, Repeats, SOH, State, Taken, after, after_take, body_at, body_of, bulletin_at, channel_bytes, choice, dec, digits_on, drawn, enumerate_from, find, frame, frame_of_draw, group_text, heading_of, heading_text, idle, key_of, key_of_frame, letters, message_end, message_of, no_heading, number_in, numbered_frame, on, on_circuit, split_at, spoken, with_drawn}
+use Rattle.gts_count.specs.Cited.{Bulletin, Choice, CircuitState, Directory, Draws, EOL, HeadingFields, IsBody, IsHeading, Kind, MessageField, MessageParts, Nothing_waits, Outside, Repeats, SOH, State, Taken, after, after_take, body_at, body_of, bulletin_at, channel_bytes, choice, dec, digits_on, drawn, enumerate_from, find, frame, frame_of_draw, heading_of, heading_text, idle, key_of, key_of_frame, letters, message_end, message_of, no_heading, numbered_frame, on, on_circuit, split_at, spoken, with_drawn}
 use Rattle.std.proofs.lemmas.Bool.{true≢false, eq-eqb, ne_eqb}
 use Rattle.std.proofs.lemmas.List.{take-append-le, get_or-set_same}
 use Rattle.std.proofs.Math.Seq.{drop-append-add}
@@ -9,36 +9,13 @@ use Rattle.gts_traits.proofs.LawLemmas.{channel_bytes-on}
 use Rattle.gts_message.proofs.LawLemmas.{body_is_spelled, body_of_message}
 use Rattle.gts_frame.proofs.LawLemmas.{length-frame, length-letters}
 use Rattle.gts_event.proofs.LawLemmas.{draw_index}
+use Rattle.std.proofs.lemmas.Grind.{common_steps}
 
 -- ---- in a body
 
 long_heading : (h : HeadingFields) → IsHeading h → 11 ≤ length (heading_text h)
 unfolding heading_text
-long_heading h is =
-    let a1 : List ℕ = h.tt ++ h.aa in
-    let a2 : List ℕ = a1 ++ dec 2 h.ii in
-    let a3 : List ℕ = a2 ++ 32 ∷ [] in
-    let a4 : List ℕ = a3 ++ h.cccc in
-    let a5 : List ℕ = a4 ++ 32 ∷ [] in
-    let a6 : List ℕ = a5 ++ dec 2 h.day in
-    let a7 : List ℕ = a6 ++ dec 2 h.hour in
-    let a8 : List ℕ = a7 ++ dec 2 h.minute in
-    omega (
-      arith,
-      length-append h.tt h.aa,
-      length-append a1 (dec 2 h.ii),
-      length-append a2 (32 ∷ []),
-      length-append a3 h.cccc,
-      length-append a4 (32 ∷ []),
-      length-append a5 (dec 2 h.day),
-      length-append a6 (dec 2 h.hour),
-      length-append a7 (dec 2 h.minute),
-      length-append a8 (group_text h.bbb),
-      length-dec 2 h.ii,
-      is.tt.0,
-      is.aa.0,
-      is.cccc.0,
-    )
+long_heading h is = grind (arith, common_steps, length-dec)
 
 -- the first of what is put together
 front_is : (a b : List ℕ) → 11 ≤ length a → (11 ≤ length (a ++ b)) × (take 11 (a ++ b) ≡ take 11 a)
@@ -85,20 +62,12 @@ body_in_frame kind w n body =
     ∙ drop_is (dec w n ++ EOL) body 0 (w + 3) (omega (arith, length-append (dec w n) EOL, length-dec w n))
 
 pub key_frame : (b : Bulletin) (w i : ℕ) → is_ok (body_at b.body) ≡ true → (28 + w ≤ length (numbered_frame w i b)) × (key_of_frame w (numbered_frame w i b) ≡ key_of b.body)
-key_frame b w i good =
-    let n : ℕ = number_in w i in
-    let key = key_body b.body good in
-    let m : List ℕ = message_of (dec w n) b.body in (
-      omega (arith, key.0, length-frame b.kind m, length-append (dec w n ++ EOL) b.body, length-append (dec w n) EOL, length-dec w n),
-      ap (take 11) (body_in_frame b.kind w n b.body) ∙ key.1,
-    )
+key_frame b w i good = grind (arith, common_steps, key_body, length-frame, length-dec, body_in_frame)
 
 -- ---- the frame of a draw
 
 find_last : (e : ℕ) (ts : List ℕ) (p : ℕ) → find (λ (draw : ℕ × ℕ). draw.0 == (e + length ts)) (enumerate_from e (ts ++ p ∷ [])) ≡ Some (e + length ts, p)
-find_last e [] p =
-    let here : e ≡ e + 0 = omega arith in
-    ap (λ b. cond b (Some (e, p)) None) (eq-eqb e (e + 0) here) ∙ ap (λ (x : ℕ). Some (x, p)) here
+find_last e [] p = grind (arith, common_steps, eq-eqb)
 find_last e (t ∷ ts) p =
     let n : ℕ = e + length (t ∷ ts) in
     let same : e + 1 + length ts ≡ n = omega arith in

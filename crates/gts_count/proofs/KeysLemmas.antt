@@ -1,6 +1,6 @@
 -- The keys of the rows that have numbers are those that are counted, each once, ascending.
-use Rattle.std.proofs.Common.{◌≡◌, ℕ, ◌+◌, ◌≤◌, Bool, true, false, not, ◌&&◌, ◌||◌, ◌==◌, cond, inl, inr, nat_eq, List, [], ◌∷◌, ◌++◌, map, filter, fold, flat_map, sum_by, Option, Some, None, refl, sym, ap, subst, ◌∙◌, arith}
-use Rattle.gts_count.specs.Cited.{AllByRecursion, Equal, Greater, Less, Ordering, Recent, Row, SortedRows, Tally, bulletins, bytes, bytes_below, counted, draws, draws_among, entry_text, insert_entry, is_at, is_counted, is_eq, is_of, key_line, key_lines, key_text, keys, list_any, lookup, match_ordering, once, ordering_reverse, pointwise, row_in, with_key}
+use Rattle.std.proofs.Common.{◌≡◌, ℕ, ◌+◌, ◌≤◌, Bool, true, false, ◌||◌, ◌==◌, cond, inl, inr, nat_eq, List, [], ◌∷◌, ◌++◌, map, filter, fold, flat_map, sum_by, Option, Some, None, refl, sym, ap, ◌∙◌, arith}
+use Rattle.gts_count.specs.Cited.{AllByRecursion, Equal, Greater, Less, Ordering, Recent, Row, SortedRows, Tally, bytes_below, counted, draws_among, entry_text, insert_entry, is_at, is_counted, is_eq, is_of, key_line, key_lines, keys, list_any, lookup, match_ordering, once, ordering_reverse, pointwise, row_in, with_key}
 use Rattle.std.specs.List.Sorted.{IsStrictlySortedBy}
 use Rattle.std.proofs.lemmas.Bool.{true≢false, eq-eqb, ne_eqb, or_cases, or_parts}
 use Rattle.std.proofs.lemmas.Cmp.{nat_list_cmp_total, nat_list_eq_equiv}
@@ -9,6 +9,7 @@ use Rattle.std.proofs.lemmas.List.Sums.{sum_by-cons}
 use Rattle.gts_count.proofs.RowLemmas.{same_test}
 use Rattle.gts_count.proofs.OrderedLemmas.{Up, one_list}
 use Rattle.gts_frame.proofs.LawLemmas.{same_from_pointwise as same_numbers}
+use Rattle.std.proofs.lemmas.Grind.{common_steps}
 
 abbrev Entries : Type 0 → Type 0
 Entries X = List (List ℕ × X)
@@ -24,12 +25,7 @@ Under a b = bytes_below a b ≡ Less
 
 all_with : {X : Type 0} (P : List ℕ → Type 0) (es : Entries X) (k : List ℕ) (v : X) → AllByRecursion P (keys_in es) → P k → AllByRecursion P (keys_in (insert_entry bytes_below es k v))
 all_with P [] k v all here = (here, all)
-all_with {X} P (e ∷ es) k v all here = go (bytes_below k e.0) (all_with P es k v all.1 here)
-  where
-    go : (o : Ordering) → AllByRecursion P (keys_in (insert_entry bytes_below es k v)) → AllByRecursion P (keys_in (match_ordering o ((k, v) ∷ e ∷ es) ((e.0, v) ∷ es) (e ∷ insert_entry bytes_below es k v)))
-    go Less rest = (here, all)
-    go Equal rest = all
-    go Greater rest = (all.0, rest)
+all_with {X} P (e ∷ es) k v all here = grind (arith, common_steps, all_with P es k v all.1 here)
 
 all_below : (k x : List ℕ) (ys : List (List ℕ)) → Under k x → AllByRecursion (Under x) ys → AllByRecursion (Under k) ys
 all_below k x [] less all = all
@@ -75,15 +71,7 @@ moved false b c = refl
 
 there_with : (es : Entries (Unit {0})) (k : List ℕ) (key : List ℕ) → there key (keys_in (insert_entry bytes_below es k tt)) ≡ (pointwise nat_eq key k || there key (keys_in es))
 there_with [] k key = refl
-there_with (e ∷ es) k key = go (bytes_below k e.0) refl (there_with es k key)
-  where
-    go : (o : Ordering) → bytes_below k e.0 ≡ o → there key (keys_in (insert_entry bytes_below es k tt)) ≡ (pointwise nat_eq key k || there key (keys_in es))
-        → there key (keys_in (match_ordering o ((k, tt) ∷ e ∷ es) ((e.0, tt) ∷ es) (e ∷ insert_entry bytes_below es k tt))) ≡ (pointwise nat_eq key k || (pointwise nat_eq key e.0 || there key (keys_in es)))
-    go Less is rest = refl
-    go Equal is rest =
-        let same : pointwise nat_eq key e.0 ≡ pointwise nat_eq key k = ap (λ (x : List ℕ). pointwise nat_eq key x) (sym (exact_bytes k e.0 is)) in
-        ap (λ (b : Bool). b || there key (keys_in es)) same ∙ once_more (pointwise nat_eq key k) (there key (keys_in es)) ∙ ap (λ (b : Bool). pointwise nat_eq key k || (b || there key (keys_in es))) (sym same)
-    go Greater is rest = ap (λ (b : Bool). pointwise nat_eq key e.0 || b) rest ∙ turned (pointwise nat_eq key e.0) (pointwise nat_eq key k) (there key (keys_in es))
+there_with (e ∷ es) k key = grind (arith, common_steps, exact_bytes, once_more, turned, there_with es k key)
 
 there_from : (found : List (List ℕ)) (es : Entries (Unit {0})) (key : List ℕ) → there key (keys_in (fold with_key es found)) ≡ (there key found || there key (keys_in es))
 there_from [] es key = refl
@@ -103,43 +91,16 @@ there_keys t key = there_from (map (λ r. r.key) t.recent ++ flat_map (λ kept. 
 
 there_append : (key : List ℕ) (xs ys : List (List ℕ)) → there key (xs ++ ys) ≡ (there key xs || there key ys)
 there_append key [] ys = refl
-there_append key (x ∷ xs) ys = ap (λ (b : Bool). pointwise nat_eq key x || b) (there_append key xs ys) ∙ or_assoc (pointwise nat_eq key x) (there key xs) (there key ys)
-  where
-    or_assoc : (a b c : Bool) → (a || (b || c)) ≡ ((a || b) || c)
-    or_assoc true b c = refl
-    or_assoc false b c = refl
+there_append key (x ∷ xs) ys = grind (arith, common_steps, there_append key xs ys)
 
 -- no bulletin has it, or some one does
 recent_counts : (key : List ℕ) (recent : List Recent) → (there key (map (λ r. r.key) recent) ≡ false → (sum_by (λ r. once (is_of key r)) recent ≡ 0) × (sum_by (λ r. cond (is_of key r) r.bytes 0) recent ≡ 0)) × (there key (map (λ r. r.key) recent) ≡ true → 1 ≤ sum_by (λ r. once (is_of key r)) recent)
 recent_counts key [] = ((λ e. (refl, refl)), (λ e. absurd (true≢false (sym e))))
-recent_counts key (r ∷ recent) = go (is_of key r) refl (recent_counts key recent)
-  where
-    ones : sum_by (λ r. once (is_of key r)) (r ∷ recent) ≡ once (is_of key r) + sum_by (λ r. once (is_of key r)) recent
-    ones = sum_by-cons (λ (r : Recent). once (is_of key r)) r recent
-
-    sizes : sum_by (λ r. cond (is_of key r) r.bytes 0) (r ∷ recent) ≡ cond (is_of key r) r.bytes 0 + sum_by (λ r. cond (is_of key r) r.bytes 0) recent
-    sizes = sum_by-cons (λ (r : Recent). cond (is_of key r) r.bytes 0) r recent
-
-    go : (b : Bool) → is_of key r ≡ b
-        → (there key (map (λ r. r.key) recent) ≡ false → (sum_by (λ r. once (is_of key r)) recent ≡ 0) × (sum_by (λ r. cond (is_of key r) r.bytes 0) recent ≡ 0)) × (there key (map (λ r. r.key) recent) ≡ true → 1 ≤ sum_by (λ r. once (is_of key r)) recent)
-        → ((b || there key (map (λ r. r.key) recent)) ≡ false → (sum_by (λ r. once (is_of key r)) (r ∷ recent) ≡ 0) × (sum_by (λ r. cond (is_of key r) r.bytes 0) (r ∷ recent) ≡ 0)) × ((b || there key (map (λ r. r.key) recent)) ≡ true → 1 ≤ sum_by (λ r. once (is_of key r)) (r ∷ recent))
-    go true is rest = ((λ e. absurd (true≢false e)), (λ e. omega (arith, ones, ap once is)))
-    go false is rest = (
-      (λ e. let none = rest.0 e in (omega (arith, ones, ap once is, none.0), omega (arith, sizes, ap (λ (b : Bool). cond b r.bytes 0) is, none.1))),
-      (λ e. omega (arith, ones, rest.1 e)),
-    )
+recent_counts key (r ∷ recent) = grind (arith, common_steps, sum_by-cons, recent_counts key recent)
 
 kept_counts : (key : List ℕ) (kept : List (List ℕ)) → (there key kept ≡ false → draws_among key kept ≡ 0) × (there key kept ≡ true → 1 ≤ draws_among key kept)
 kept_counts key [] = ((λ e. refl), (λ e. absurd (true≢false (sym e))))
-kept_counts key (k ∷ kept) = go (pointwise nat_eq key k) refl (kept_counts key kept)
-  where
-    ones : draws_among key (k ∷ kept) ≡ once (pointwise nat_eq key k) + draws_among key kept
-    ones = sum_by-cons (λ (x : List ℕ). once (pointwise nat_eq key x)) k kept
-
-    go : (b : Bool) → pointwise nat_eq key k ≡ b → (there key kept ≡ false → draws_among key kept ≡ 0) × (there key kept ≡ true → 1 ≤ draws_among key kept)
-        → ((b || there key kept) ≡ false → draws_among key (k ∷ kept) ≡ 0) × ((b || there key kept) ≡ true → 1 ≤ draws_among key (k ∷ kept))
-    go true is rest = ((λ e. absurd (true≢false e)), (λ e. omega (arith, ones, ap once is)))
-    go false is rest = ((λ e. omega (arith, ones, ap once is, rest.0 e)), (λ e. omega (arith, ones, rest.1 e)))
+kept_counts key (k ∷ kept) = grind (arith, common_steps, sum_by-cons, kept_counts key kept)
 
 drawn_counts : (key : List ℕ) (drawn : List (List (List ℕ))) → (there key (flat_map (λ kept. kept) drawn) ≡ false → sum_by (draws_among key) drawn ≡ 0) × (there key (flat_map (λ kept. kept) drawn) ≡ true → 1 ≤ sum_by (draws_among key) drawn)
 drawn_counts key [] = ((λ e. refl), (λ e. absurd (true≢false (sym e))))
@@ -160,29 +121,7 @@ is_zero : (n : ℕ) → n ≡ 0 → (n == 0) ≡ true
 is_zero n e = eq-eqb n 0 e
 
 counted_there : (t : Tally) (key : List ℕ) → is_counted (counted t key) ≡ there key (map (λ r. r.key) t.recent ++ flat_map (λ kept. kept) t.drawn)
-counted_there t key =
-    go (there key (map (λ r. r.key) t.recent)) refl (there key (flat_map (λ kept. kept) t.drawn)) refl
-    ∙ sym (there_append key (map (λ r. r.key) t.recent) (flat_map (λ kept. kept) t.drawn))
-  where
-    go : (a : Bool) → there key (map (λ r. r.key) t.recent) ≡ a → (b : Bool) → there key (flat_map (λ kept. kept) t.drawn) ≡ b
-        → is_counted (counted t key) ≡ (there key (map (λ r. r.key) t.recent) || there key (flat_map (λ kept. kept) t.drawn))
-    go true is b also =
-        ap (λ (z : Bool). not (z && (bytes t key == 0) && (draws t key == 0))) (not_zero (bulletins t key) ((recent_counts key t.recent).1 is))
-        ∙ sym (ap (λ (z : Bool). z || there key (flat_map (λ kept. kept) t.drawn)) is)
-    go false is true also =
-        ap (λ (z : Bool). not ((bulletins t key == 0) && (bytes t key == 0) && z)) (not_zero (draws t key) ((drawn_counts key t.drawn).1 also))
-        ∙ last ((bulletins t key == 0) && (bytes t key == 0))
-        ∙ sym (ap (λ (z : Bool). z || there key (flat_map (λ kept. kept) t.drawn)) is ∙ also)
-      where
-        last : (z : Bool) → not (z && false) ≡ true
-        last true = refl
-        last false = refl
-    go false is false also =
-        let none = (recent_counts key t.recent).0 is in
-        ap (λ (z : Bool). not (z && (bytes t key == 0) && (draws t key == 0))) (is_zero (bulletins t key) none.0)
-        ∙ ap (λ (z : Bool). not (z && (draws t key == 0))) (is_zero (bytes t key) none.1)
-        ∙ ap not (is_zero (draws t key) ((drawn_counts key t.drawn).0 also))
-        ∙ sym (ap (λ (z : Bool). z || there key (flat_map (λ kept. kept) t.drawn)) is ∙ also)
+counted_there t key = grind (arith, common_steps, there_append, not_zero, recent_counts, drawn_counts, is_zero)
 
 -- ---- the rows that have numbers
 
@@ -191,11 +130,7 @@ some_numbers o = is_counted (row_in o)
 
 low_filter : (k : List ℕ) (es : Entries Row) → AllByRecursion (Under k) (keys_in es) → AllByRecursion (Under k) (keys_in (filter (λ e. is_counted e.1) es))
 low_filter k [] all = tt
-low_filter k (e ∷ es) all = go (is_counted e.1) (low_filter k es all.1)
-  where
-    go : (b : Bool) → AllByRecursion (Under k) (keys_in (filter (λ e. is_counted e.1) es)) → AllByRecursion (Under k) (keys_in (cond b (e ∷ filter (λ e. is_counted e.1) es) (filter (λ e. is_counted e.1) es)))
-    go true rest = (all.0, rest)
-    go false rest = rest
+low_filter k (e ∷ es) all = grind (arith, common_steps, low_filter k es all.1)
 
 up_filter : (es : Entries Row) → Up Under (keys_in es) → Up Under (keys_in (filter (λ e. is_counted e.1) es))
 up_filter [] up = tt
@@ -216,27 +151,7 @@ none_there k (e ∷ es) all = ap (λ (o : Ordering). cond (is_eq o) (Some e.1) (
 -- a key stands in the rows with numbers where the row that is found for it has numbers
 there_found : (key : List ℕ) (es : Entries Row) → Up Under (keys_in es) → there key (keys_in (filter (λ e. is_counted e.1) es)) ≡ some_numbers (lookup (is_at (bytes_below key)) es)
 there_found key [] up = refl
-there_found key (e ∷ es) up = go (pointwise nat_eq e.0 key) refl (is_counted e.1) refl (there_found key es up.1)
-  where
-    twin : pointwise nat_eq key e.0 ≡ pointwise nat_eq e.0 key
-    twin = nat_list_eq_equiv.symm key e.0
-
-    test : is_eq (bytes_below key e.0) ≡ pointwise nat_eq e.0 key
-    test = same_test key e.0
-
-    go : (a : Bool) → pointwise nat_eq e.0 key ≡ a → (b : Bool) → is_counted e.1 ≡ b → there key (keys_in (filter (λ e. is_counted e.1) es)) ≡ some_numbers (lookup (is_at (bytes_below key)) es)
-        → there key (keys_in (cond b (e ∷ filter (λ e. is_counted e.1) es) (filter (λ e. is_counted e.1) es))) ≡ some_numbers (cond (is_eq (bytes_below key e.0)) (Some e.1) (lookup (is_at (bytes_below key)) es))
-    go true same true num rest =
-        ap (λ (z : Bool). z || there key (keys_in (filter (λ e. is_counted e.1) es))) (twin ∙ same)
-        ∙ sym (ap (λ (z : Bool). some_numbers (cond z (Some e.1) (lookup (is_at (bytes_below key)) es))) (test ∙ same) ∙ num)
-    go true same false num rest =
-        let is : e.0 ≡ key = same_numbers e.0 key same in
-        let gone : lookup (is_at (bytes_below key)) es ≡ None = none_there key es (subst (λ (k : List ℕ). AllByRecursion (Under k) (keys_in es)) is up.0) in
-        rest ∙ ap some_numbers gone ∙ sym (ap (λ (z : Bool). some_numbers (cond z (Some e.1) (lookup (is_at (bytes_below key)) es))) (test ∙ same) ∙ num)
-    go false other true num rest =
-        ap (λ (z : Bool). z || there key (keys_in (filter (λ e. is_counted e.1) es))) (twin ∙ other) ∙ rest
-        ∙ sym (ap (λ (z : Bool). some_numbers (cond z (Some e.1) (lookup (is_at (bytes_below key)) es))) (test ∙ other))
-    go false other false num rest = rest ∙ sym (ap (λ (z : Bool). some_numbers (cond z (Some e.1) (lookup (is_at (bytes_below key)) es))) (test ∙ other))
+there_found key (e ∷ es) up = grind (arith, common_steps, nat_list_eq_equiv, same_test, same_numbers, none_there, there_found key es up.1)
 
 -- each entry is the one that is found under its key
 abbrev Found : Entries Row → List ℕ × Row → Type 0
@@ -250,10 +165,7 @@ found_later x es (e ∷ rest) up all =
 
 each_found : (es : Entries Row) → Up Under (keys_in es) → AllByRecursion (Found es) es
 each_found [] up = tt
-each_found (e ∷ es) up = (
-  ap (λ (b : Bool). cond b (Some e.1) (lookup (is_at (bytes_below e.0)) es)) (same_test e.0 e.0 ∙ nat_list_eq_equiv.refl e.0),
-  found_later e es es up.0 (each_found es up.1),
-)
+each_found (e ∷ es) up = grind (arith, common_steps, same_test, nat_list_eq_equiv, found_later, each_found es up.1)
 
 -- each key has the numbers that are counted, in rows that are in order
 abbrev pub IsCountInOrder : Tally → SortedRows → Type 0
@@ -262,16 +174,7 @@ IsCountInOrder t rows = (key : List ℕ) → row_in (lookup (is_at (bytes_below 
 -- their lines
 lines_of : (t : Tally) (rows : SortedRows) (es : Entries Row) → IsCountInOrder t rows → AllByRecursion (Found rows.entries) es → flat_map entry_text es ≡ flat_map (key_line t) (keys_in (filter (λ e. is_counted e.1) es))
 lines_of t rows [] counts all = refl
-lines_of t rows (e ∷ es) counts all = go (is_counted e.1) (lines_of t rows es counts all.1)
-  where
-    row_is : e.1 ≡ counted t e.0
-    row_is = sym (ap row_in all.0) ∙ counts e.0
-
-    go : (b : Bool) → flat_map entry_text es ≡ flat_map (key_line t) (keys_in (filter (λ e. is_counted e.1) es))
-        → cond b (key_text e.0 e.1.bulletins e.1.bytes e.1.draws) [] ++ flat_map entry_text es ≡ flat_map (key_line t) (keys_in (cond b (e ∷ filter (λ e. is_counted e.1) es) (filter (λ e. is_counted e.1) es)))
-    go true rest =
-        ap (λ (row : Row). key_text e.0 row.bulletins row.bytes row.draws ++ flat_map entry_text es) row_is ∙ ap (λ (l : List ℕ). key_line t e.0 ++ l) rest
-    go false rest = rest
+lines_of t rows (e ∷ es) counts all = grind (arith, common_steps, lines_of t rows es counts all.1)
 
 -- the lines of the rows are those of the keys that are counted
 pub lines_are : (t : Tally) (rows : SortedRows) → IsCountInOrder t rows → Up Under (keys_in rows.entries) → key_lines rows ≡ flat_map (key_line t) (keys t)

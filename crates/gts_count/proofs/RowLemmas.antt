@@ -1,11 +1,13 @@
 -- The rows of a map, one key after another.
-use Rattle.std.proofs.Common.{◌≡◌, ℕ, Bool, true, false, cond, nat_eq, List, Option, Some, None, is_some, refl, sym, ap, subst, ◌∙◌}
+use Rattle.std.proofs.Common.{◌≡◌, ℕ, Bool, true, false, cond, nat_eq, List, Option, Some, None, is_some, refl, sym, subst, ◌∙◌}
 use Rattle.gts_count.specs.Cited.{AddsRow, ChangesRow, Row, Rows, bytes_below, is_eq, no_row, pointwise, row_at, row_in}
 use Rattle.std.specs.HashMap.{get}
 use Rattle.std.proofs.lemmas.Bool.{true≢false}
 use Rattle.std.proofs.lemmas.Cmp.{nat_list_eq_equiv}
 use Rattle.std.proofs.lemmas.Map.Text.{is_eq-slice_cmp}
 use Rattle.gts_frame.proofs.LawLemmas.{same_from_pointwise}
+use Rattle.std.proofs.lemmas.Grind.{common_steps}
+use Rattle.std.proofs.Common.{arith}
 
 -- two tests of the same key
 pub same_test : (key k : List ℕ) → is_eq (bytes_below key k) ≡ pointwise nat_eq k key
@@ -28,17 +30,12 @@ there_too : (m : Rows) (key k : List ℕ) → is_some (get (pointwise nat_eq) m 
 there_too m key k has same = subst (λ (x : List ℕ). is_some (get (pointwise nat_eq) m x) ≡ true) (same_from_pointwise key k same) has
 
 changes : (m n : Rows) (key : List ℕ) (row : Row) → ((q : List ℕ) → get (pointwise nat_eq) n q ≡ cond (pointwise nat_eq key q) (Some row) (get (pointwise nat_eq) m q)) → is_some (get (pointwise nat_eq) m key) ≡ true → ChangesRow m n key row
-changes m n key row updates has = record {
-  numbers = λ k. ap row_in (updates k) ∙ row_in-cond (pointwise nat_eq key k) row (get (pointwise nat_eq) m k) ∙ ap (λ b. cond b row (row_at m k)) (turned key k);
-  keeps = λ k. ap is_some (updates k) ∙ is_some-cond (pointwise nat_eq key k) row (get (pointwise nat_eq) m k) (there_too m key k has);
-}
+changes m n key row updates has = grind (arith, common_steps, row_in-cond, turned, is_some-cond, there_too)
 
 -- the row that was found is changed
 pub changed : (m n : Rows) (key : List ℕ) (change : Row → Row) (was now : Row) → get (pointwise nat_eq) m key ≡ Some was → now ≡ change was
     → ((q : List ℕ) → get (pointwise nat_eq) n q ≡ cond (pointwise nat_eq key q) (Some now) (get (pointwise nat_eq) m q)) → ChangesRow m n key (change (row_at m key))
-changed m n key change was now found is updates =
-    let wanted : now ≡ change (row_at m key) = is ∙ sym (ap (λ (o : Option Row). change (row_in o)) found) in
-    subst (λ (row : Row). ChangesRow m n key row) wanted (changes m n key now updates (ap is_some found))
+changed m n key change was now found is updates = grind (arith, common_steps, changes)
 
 there_still : (b : Bool) (o : Option Row) → is_some o ≡ true → is_some (cond b (Some no_row) o) ≡ true
 there_still true o there = refl
@@ -49,11 +46,4 @@ none_in None is = refl
 none_in (Some row) is = absurd (true≢false is)
 
 pub adds : (m n : Rows) (key : List ℕ) → ((q : List ℕ) → get (pointwise nat_eq) n q ≡ cond (pointwise nat_eq key q) (Some no_row) (get (pointwise nat_eq) m q)) → is_some (get (pointwise nat_eq) m key) ≡ false → AddsRow m n
-adds m n key updates none = record {
-  numbers = λ k. ap row_in (updates k) ∙ row_in-cond (pointwise nat_eq key k) no_row (get (pointwise nat_eq) m k) ∙ zero k (pointwise nat_eq key k) refl;
-  keeps = λ k there. ap is_some (updates k) ∙ there_still (pointwise nat_eq key k) (get (pointwise nat_eq) m k) there;
-}
-  where
-    zero : (k : List ℕ) (b : Bool) → pointwise nat_eq key k ≡ b → cond b no_row (row_at m k) ≡ row_at m k
-    zero k true same = sym (ap (λ (x : List ℕ). row_at m x) (sym (same_from_pointwise key k same)) ∙ none_in (get (pointwise nat_eq) m key) none)
-    zero k false same = refl
+adds m n key updates none = grind (arith, common_steps, row_in-cond, there_still, same_from_pointwise, none_in)

@@ -6,6 +6,8 @@ use Rattle.std.specs.HashMap as hash
 use Rattle.std.proofs.lemmas.List.Elements.{All-head, All-same, All-rest}
 use Rattle.gts_count.proofs.RowLemmas.{same_test}
 use Rattle.gts_frame.proofs.LawLemmas.{same_from_pointwise}
+use Rattle.std.proofs.lemmas.Grind.{common_steps}
+use Rattle.std.proofs.Common.{arith}
 
 -- what was found, or else the other
 abbrev pub found_or : Option Row → Option Row → Option Row
@@ -23,12 +25,7 @@ IsSorting rows sorted left =
     × ((key : List ℕ) → found_or (tree.get bytes_below sorted key) (lookup (pointwise nat_eq key) left) ≡ hash.get (pointwise nat_eq) rows key)
 
 pub none_sorted : (rows : Rows) (sorted : SortedRows) (left : List (List ℕ × Row)) → sorted.entries ≡ [] → left ≡ rows.entries → All (IsOwn rows) rows.entries → IsSorting rows sorted left
-none_sorted rows sorted left empty all own = (
-  All-same (IsOwn rows) left rows.entries all own,
-  λ key.
-      ap (λ (es : List (List ℕ × Row)). found_or (lookup (λ k. is_eq (bytes_below key k)) es) (lookup (pointwise nat_eq key) left)) empty
-      ∙ ap (λ (es : List (List ℕ × Row)). lookup (pointwise nat_eq key) es) all,
-)
+none_sorted rows sorted left empty all own = grind (arith, common_steps, All-same)
 
 pub one_sorted : (rows : Rows) (old new : SortedRows) (k : List ℕ) (row : Row) (left rest : List (List ℕ × Row)) → left ≡ (k, row) ∷ rest → IsSorting rows old left
     → ((q : List ℕ) → tree.get bytes_below new q ≡ cond (is_eq (bytes_below k q)) (Some row) (tree.get bytes_below old q)) → IsSorting rows new rest
@@ -55,7 +52,4 @@ or_none None = refl
 or_none (Some row) = refl
 
 pub all_sorted : (rows : Rows) (sorted : SortedRows) (left : List (List ℕ × Row)) → left ≡ [] → IsSorting rows sorted left → AreInOrder rows sorted
-all_sorted rows sorted left none so_far key =
-    sym (or_none (tree.get bytes_below sorted key))
-    ∙ sym (ap (λ (es : List (List ℕ × Row)). found_or (tree.get bytes_below sorted key) (lookup (pointwise nat_eq key) es)) none)
-    ∙ so_far.1 key
+all_sorted rows sorted left none so_far key = grind (arith, common_steps, or_none)

@@ -1,6 +1,6 @@
 -- The running numbers stay those of what was counted.
 use Rattle.std.proofs.Common.{◌≡◌, ℕ, zero, suc, ◌+◌, ◌-◌, ◌*◌, ◌<◌, ◌≤◌, ◌^◌, Bool, true, false, cond, nat_eq, IsTrue, List, [], ◌∷◌, ◌++◌, length, map, drop, set, get_or, sum_by, slice_get, Option, Some, None, is_some, refl, sym, ap, ◌∙◌, arith}
-use Rattle.gts_count.specs.Cited.{All, Buffer, HasCame, IsCount, IsRing, IsSmall, IsSound, Numbers, Recent, Row, Rows, buffer, came, counted, draws_among, has_row, is_of, keep_last, kept_with, no_ring, once, pointwise, row_at, row_in, with_item, with_newest, without_oldest}
+use Rattle.gts_count.specs.Cited.{All, Buffer, HasCame, IsCount, IsRing, IsSmall, IsSound, Numbers, Recent, Row, Rows, draws_among, has_row, is_of, keep_last, kept_with, no_ring, once, pointwise, row_at, row_in, with_item, with_newest, without_oldest}
 use Rattle.std.specs.HashMap.{get}
 use Rattle.std.proofs.lemmas.Bool.{true≢false, eqb-true, eqb-false, eq-eqb}
 use Rattle.std.proofs.lemmas.Cmp.{nat_list_eq_equiv}
@@ -9,6 +9,7 @@ use Rattle.std.proofs.lemmas.List.{get_or-set_same, get_or-set_other, length-set
 use Rattle.std.proofs.lemmas.List.Elements.{All-map, All-set}
 use Rattle.std.proofs.lemmas.List.Sums.{sum_by-cons, sum_by-le, get_or-le-sum_by}
 use Rattle.gts_count.proofs.CountLemmas.{tallied, one, size, among, sum_by-more}
+use Rattle.std.proofs.lemmas.Grind.{common_steps}
 
 -- a list that has a first element
 pub first : {X : Type 0} (xs : List X) (y : X) → slice_get xs 0 ≡ Some y → xs ≡ y ∷ drop 1 xs
@@ -44,42 +45,14 @@ first_came y rest drawn numbers has inside = omega (arith, has y.from inside, su
 -- one bulletin leaves, and its circuit has one less
 pub leaves_came : (y : Recent) (rest : List Recent) (drawn : List (List (List ℕ))) (numbers : List ℕ) (v : ℕ) → HasCame (tallied (y ∷ rest) drawn) numbers → y.from < length numbers → v ≡ get_or numbers y.from 0 - 1
     → HasCame (tallied rest drawn) (set numbers y.from v)
-leaves_came y rest drawn numbers v has inside is c within = go (nat_eq y.from c) refl
-  where
-    there : c < length numbers
-    there = omega (arith, within, length-set numbers y.from v)
-
-    ones : sum_by (on c) (y ∷ rest) ≡ on c y + sum_by (on c) rest
-    ones = sum_by-cons (on c) y rest
-
-    go : (b : Bool) → nat_eq y.from c ≡ b → get_or (set numbers y.from v) c 0 ≡ came (tallied rest drawn) c
-    go true same =
-        let eq : y.from ≡ c = eqb-true y.from c same in
-        let new : get_or (set numbers y.from v) c 0 ≡ v = ap (λ (i : ℕ). get_or (set numbers y.from v) i 0) (sym eq) ∙ get_or-set_same numbers y.from v 0 inside in
-        let was : get_or numbers y.from 0 ≡ came (tallied (y ∷ rest) drawn) c = ap (λ (i : ℕ). get_or numbers i 0) eq ∙ has c there in
-        omega (arith, new, is, was, ones, ap once same)
-    go false same =
-        get_or-set_other numbers y.from c v 0 (λ e. eqb-false y.from c same (sym e)) ∙ has c there ∙ (omega (arith, ones, ap once same))
+leaves_came y rest drawn numbers v has inside is c within =
+    grind (arith, common_steps, length-set, sum_by-cons, tallied, eqb-true, get_or-set_same, get_or-set_other, eqb-false)
 
 -- one bulletin joins, and its circuit has one more
 pub joins_came : (x : Recent) (recent : List Recent) (drawn : List (List (List ℕ))) (numbers : List ℕ) (v : ℕ) → HasCame (tallied recent drawn) numbers → x.from < length numbers → v ≡ get_or numbers x.from 0 + 1
     → HasCame (tallied (recent ++ x ∷ []) drawn) (set numbers x.from v)
-joins_came x recent drawn numbers v has inside is c within = go (nat_eq x.from c) refl
-  where
-    there : c < length numbers
-    there = omega (arith, within, length-set numbers x.from v)
-
-    ones : sum_by (on c) (recent ++ x ∷ []) ≡ sum_by (on c) recent + on c x
-    ones = sum_by-more (on c) recent x
-
-    go : (b : Bool) → nat_eq x.from c ≡ b → get_or (set numbers x.from v) c 0 ≡ came (tallied (recent ++ x ∷ []) drawn) c
-    go true same =
-        let eq : x.from ≡ c = eqb-true x.from c same in
-        let new : get_or (set numbers x.from v) c 0 ≡ v = ap (λ (i : ℕ). get_or (set numbers x.from v) i 0) (sym eq) ∙ get_or-set_same numbers x.from v 0 inside in
-        let was : get_or numbers x.from 0 ≡ came (tallied recent drawn) c = ap (λ (i : ℕ). get_or numbers i 0) eq ∙ has c there in
-        omega (arith, new, is, was, ones, ap once same)
-    go false same =
-        get_or-set_other numbers x.from c v 0 (λ e. eqb-false x.from c same (sym e)) ∙ has c there ∙ (omega (arith, ones, ap once same))
+joins_came x recent drawn numbers v has inside is c within =
+    grind (arith, common_steps, length-set, sum_by-more, tallied, eqb-true, get_or-set_same, get_or-set_other, eqb-false)
 
 -- no more than one each
 once-few : (b : Bool) → once b ≤ 1
@@ -119,8 +92,7 @@ has_draw rows key few = draw_of (get (pointwise nat_eq) rows key) few
 
 -- the numbers of the key of the oldest draw of a circuit
 pub oldest_counted : (k : List ℕ) (rest : List (List ℕ)) (recent : List Recent) (drawn : List (List (List ℕ))) (c : ℕ) (m : Rows) → c < length drawn → get_or drawn c [] ≡ k ∷ rest → IsCount (tallied recent drawn) m → 1 ≤ (row_at m k).draws
-oldest_counted k rest recent drawn c m inside here is =
-    omega (arith, ap (λ (r : Row). r.draws) (is k), get_or-le-sum_by (draws_among k) drawn c [] inside, ap (draws_among k) here ∙ sum_by-cons (among k) k rest, ap once (nat_list_eq_equiv.refl k))
+oldest_counted k rest recent drawn c m inside here is = grind (arith, common_steps, get_or-le-sum_by, sum_by-cons, among, nat_list_eq_equiv)
 
 -- no key has more draws than fit
 pub few_draws : (key : List ℕ) (rings : List (Buffer (List ℕ))) → All IsRing rings → sum_by (draws_among key) (keys_in rings) ≤ length rings * 4294967295
@@ -135,35 +107,17 @@ few_draws key rings small =
 -- another ring of a circuit
 pub draws_sound : (n : Numbers) (c : ℕ) (ring : Buffer (List ℕ)) (rows : Rows) → IsSound n → IsRing ring → IsCount (tallied n.recent.items (set (keys_in n.drawn.items) c ring.items)) rows
     → IsSound (record { recent = n.recent; drawn = with_item n.drawn c ring; rows = rows; came = n.came })
-draws_sound n c ring rows sound fits counts = record {
-  rows = λ key. counts key ∙ ap (λ (drawn : List (List (List ℕ))). counted (tallied n.recent.items drawn) key) (sym (map-set (λ (q : Buffer (List ℕ)). q.items) n.drawn.items c ring));
-  came = sound.came;
-  small = sound.small;
-  window = sound.window;
-  kept = All-set IsRing n.drawn.items c ring fits sound.kept;
-  circuits = (length-set n.drawn.items c ring ∙ sound.circuits.0, omega (arith, length-set n.drawn.items c ring, sound.circuits.1));
-}
+draws_sound n c ring rows sound fits counts = grind (arith, common_steps, tallied, map-set, All-set, length-set)
 
 -- a full ring is pushed on after its oldest key left
 full_keys : (items : List (List ℕ)) (capacity : ℕ) (key : List ℕ) → length items ≡ capacity → 1 ≤ capacity → keep_last capacity (items ++ key ∷ []) ≡ drop 1 items ++ key ∷ []
 full_keys [] capacity key full some = absurd (omega (arith, full, some))
-full_keys (x ∷ xs) capacity key full some =
-    let one_more : length ((x ∷ xs) ++ key ∷ []) - capacity ≡ 1 = omega (arith, full, length-append (x ∷ xs) (key ∷ [])) in
-    ap (λ (j : ℕ). drop j ((x ∷ xs) ++ key ∷ [])) one_more
+full_keys (x ∷ xs) capacity key full some = grind (arith, common_steps, length-append)
 
 pub kept_full : (rings mid : List (Buffer (List ℕ))) (c : ℕ) (key : List ℕ) → c < length rings → IsRing (get_or rings c no_ring) → length (get_or rings c no_ring).items ≡ (get_or rings c no_ring).capacity
     → mid ≡ set rings c (without_oldest (get_or rings c no_ring)) → set mid c (with_newest (get_or mid c no_ring) key) ≡ set rings c (kept_with (get_or rings c no_ring) key)
-kept_full rings mid c key inside fits full is =
-    let ring : Buffer (List ℕ) = get_or rings c no_ring in
-    let here : get_or mid c no_ring ≡ without_oldest ring = ap (λ (l : List (Buffer (List ℕ))). get_or l c no_ring) is ∙ get_or-set_same rings c (without_oldest ring) no_ring inside in
-    ap (λ (q : Buffer (List ℕ)). set mid c (with_newest q key)) here
-    ∙ ap (λ (l : List (Buffer (List ℕ))). set l c (with_newest (without_oldest ring) key)) is
-    ∙ set-set rings c (without_oldest ring) (with_newest (without_oldest ring) key)
-    ∙ ap (λ (xs : List (List ℕ)). set rings c (buffer xs ring.capacity)) (sym (full_keys ring.items ring.capacity key full fits.1))
+kept_full rings mid c key inside fits full is = grind (arith, common_steps, get_or-set_same, set-set, full_keys)
 
 pub kept_room : (rings : List (Buffer (List ℕ))) (c : ℕ) (key : List ℕ) → length (get_or rings c no_ring).items < (get_or rings c no_ring).capacity
     → set rings c (with_newest (get_or rings c no_ring) key) ≡ set rings c (kept_with (get_or rings c no_ring) key)
-kept_room rings c key room =
-    let ring : Buffer (List ℕ) = get_or rings c no_ring in
-    let none : length (ring.items ++ key ∷ []) - ring.capacity ≡ 0 = omega (arith, room, length-append ring.items (key ∷ [])) in
-    ap (λ (xs : List (List ℕ)). set rings c (buffer xs ring.capacity)) (sym (ap (λ (j : ℕ). drop j (ring.items ++ key ∷ [])) none))
+kept_room rings c key room = grind (arith, common_steps, length-append)

@@ -1,6 +1,6 @@
 -- The numbers of a start: nothing, and what is noted.
 use Rattle.std.proofs.Common.{◌≡◌, ℕ, zero, suc, ◌+◌, ◌<◌, ◌≤◌, ◌^◌, Bool, true, false, cond, nat_eq, List, [], ◌∷◌, ◌++◌, length, get_or, take, map, replicate, sum_by, slice_get, Some, refl, sym, ap, subst, ◌∙◌, arith, IsTrue}
-use Rattle.gts_count.specs.Cited.{All, Begins, Buffer, Bulletin, Circuit, Directory, HasRings, IsRing, IsSmall, MOST_KEPT, MOST_KEPT_OF_FIVE, Notes, NotesStart, Numbers, Prepares, Recent, Row, all_joined, buffer, came, counted, draws_among, has_row, is_bulletin, is_recent, joined, key_of, lookup, no_row, nothing_drawn, pointwise, recent_in, recent_of, row_in, tally_of}
+use Rattle.gts_count.specs.Cited.{All, Begins, Buffer, Bulletin, Circuit, Directory, HasRings, IsRing, IsSmall, MOST_KEPT, MOST_KEPT_OF_FIVE, Notes, NotesStart, Numbers, Prepares, Recent, Row, buffer, came, counted, draws_among, has_row, is_bulletin, is_recent, key_of, lookup, no_row, nothing_drawn, pointwise, row_in, tally_of}
 use Rattle.std.proofs.Math.Seq.{take-suc}
 use Rattle.std.proofs.lemmas.List.{length-map, length-replicate, map-append}
 use Rattle.std.proofs.lemmas.List.Sums.{sum_by-cons}
@@ -9,6 +9,7 @@ use Rattle.std.proofs.lemmas.Option.{get_or_from_slice_get, slice_get_within}
 use Rattle.gts_event.proofs.LawLemmas.{bulletin-parts}
 use Rattle.gts_count.proofs.SoundLemmas.{single}
 use Rattle.gts_count.proofs.KeyLemmas.{key_body}
+use Rattle.std.proofs.lemmas.Grind.{common_steps}
 
 -- one row more
 pub row_more : {Y : Type 0} (f : Circuit → Y) (rows : List Circuit) (c : ℕ) (row : Circuit) (ys : List Y) (y : Y) → slice_get rows c ≡ Some row → ys ≡ map f (take c rows) → y ≡ f row → ys ++ y ∷ [] ≡ map f (take (c + 1) rows)
@@ -24,8 +25,7 @@ few_kept true n few = omega (arith, few)
 few_kept false n few = omega (arith, few)
 
 pub ring_more : (rings : List (Buffer (List ℕ))) (ring : Buffer (List ℕ)) (kept : ℕ) → ring ≡ buffer [] kept → 1 ≤ kept → kept < 2 ^ 32 → All IsRing rings → All IsRing (rings ++ ring ∷ [])
-ring_more rings ring kept is some few all =
-    All-append IsRing rings (ring ∷ []) all (single IsRing ring (subst (λ (r : Buffer (List ℕ)). IsRing r) (sym is) (omega arith, some, few)))
+ring_more rings ring kept is some few all = grind (arith, common_steps, All-append, single)
 
 -- ---- nothing
 
@@ -95,52 +95,18 @@ begins d n recent drawn rows came_in kept wide narrow few = record {
 -- ---- a bulletin is noted
 
 pub rings_prepared : (d : Directory) (old new : Numbers) → Prepares old new → HasRings d old → HasRings d new
-rings_prepared d old new p h = record {
-  sound = p.sound;
-  window = ap (λ (b : Buffer Recent). b.capacity) p.recent ∙ h.window;
-  kept = ap (λ v. map (λ q. q.capacity) v.items) p.drawn ∙ h.kept;
-}
+rings_prepared d old new p h = grind (arith, common_steps)
 
 pub rings_noted : (d : Directory) (old new : Numbers) (r : Recent) → Notes old new r → HasRings d old → HasRings d new
-rings_noted d old new r p h = record {
-  sound = p.sound;
-  window = p.window ∙ h.window;
-  kept = ap (λ v. map (λ q. q.capacity) v.items) p.drawn ∙ h.kept;
-}
+rings_noted d old new r p h = grind (arith, common_steps)
 
 -- the key of a bulletin of a start
 pub start_key : (d : Directory) (accepted : ℕ) (b : Bulletin) (key : List ℕ) → is_bulletin d accepted b ≡ true → (11 ≤ length b.body → key ≡ take 11 b.body) → key ≡ key_of b.body
 start_key d accepted b key is read = let k = key_body b.body (bulletin-parts d accepted b is).good in read k.0 ∙ k.1
 
 pub start_passed : (d : Directory) (accepted : ℕ) (b : Bulletin) (key : List ℕ) (old new : Numbers) → key ≡ key_of b.body → is_recent d accepted b.position ≡ false → Prepares old new → IsTrue (has_row new.rows key) → NotesStart d accepted b old new
-start_passed d accepted b key old new is far p has = record {
-  rings = rings_prepared d old new p;
-  recent =
-      ap (λ (x : Buffer Recent). x.items) p.recent
-      ∙ ap (all_joined old.recent.capacity old.recent.items) (sym none);
-  window = ap (λ (x : Buffer Recent). x.capacity) p.recent;
-  drawn = p.drawn;
-  has = subst (λ (k : List ℕ). IsTrue (has_row new.rows k)) is has;
-  rows = p.rows;
-}
-  where
-    none : recent_in d accepted (b ∷ []) ≡ []
-    none = ap (λ (t : Bool). map recent_of (cond t (b ∷ []) [])) far
+start_passed d accepted b key old new is far p has = grind (arith, common_steps, rings_prepared)
 
 pub start_joined : (d : Directory) (accepted : ℕ) (b : Bulletin) (key : List ℕ) (old mid new : Numbers) → key ≡ key_of b.body → is_recent d accepted b.position ≡ true → Prepares old mid → IsTrue (has_row mid.rows key)
     → Notes mid new (record { position = b.position; key = key; from = b.from; bytes = length b.body }) → NotesStart d accepted b old new
-start_joined d accepted b key old mid new is near p has noted = record {
-  rings = λ h. rings_noted d mid new (record { position = b.position; key = key; from = b.from; bytes = length b.body }) noted (rings_prepared d old mid p h);
-  recent =
-      noted.recent
-      ∙ ap (λ (x : Buffer Recent). joined x.capacity x.items (record { position = b.position; key = key; from = b.from; bytes = length b.body })) p.recent
-      ∙ ap (λ (k : List ℕ). joined old.recent.capacity old.recent.items (record { position = b.position; key = k; from = b.from; bytes = length b.body })) is
-      ∙ ap (all_joined old.recent.capacity old.recent.items) (sym one);
-  window = noted.window ∙ ap (λ (x : Buffer Recent). x.capacity) p.recent;
-  drawn = noted.drawn ∙ p.drawn;
-  has = noted.rows (key_of b.body) ∙ subst (λ (k : List ℕ). IsTrue (has_row mid.rows k)) is has;
-  rows = λ k there. noted.rows k ∙ p.rows k there;
-}
-  where
-    one : recent_in d accepted (b ∷ []) ≡ recent_of b ∷ []
-    one = ap (λ (t : Bool). map recent_of (cond t (b ∷ []) [])) near
+start_joined d accepted b key old mid new is near p has noted = grind (arith, common_steps, rings_noted, rings_prepared)

@@ -1,10 +1,11 @@
 -- What is counted of a need is what is counted of its state; and what changes that.
-use Rattle.std.proofs.Common.{◌≡◌, ℕ, zero, suc, ◌+◌, ◌-◌, ◌<◌, Bool, true, false, ◌||◌, ◌==◌, nat_lt, cond, List, [], ◌∷◌, ◌++◌, length, get_or, set, drop, map, zip, Option, Some, None, refl, sym, ap, ◌∙◌, inl, inr, arith}
-use Rattle.gts_count.specs.Cited.{Bulletin, Circuit, CircuitNeed, CircuitState, Directory, Recent, State, Tally, all_owed_last, are_below, circuit_need, circuit_needs, drawn_of, enumerate_from, find, has, idle, is_needed, is_recent, keep_last, key_at, key_of, last_of, list_all, list_any, need, routed_to, tally, tally_at, with_routed}
+use Rattle.std.proofs.Common.{◌≡◌, ℕ, zero, suc, ◌+◌, ◌-◌, ◌<◌, true, false, ◌||◌, ◌==◌, nat_lt, cond, List, [], ◌∷◌, ◌++◌, length, get_or, set, drop, map, zip, Option, Some, None, refl, sym, ap, ◌∙◌, inl, inr, arith}
+use Rattle.gts_count.specs.Cited.{Bulletin, Circuit, CircuitNeed, CircuitState, Directory, Recent, State, Tally, all_owed_last, are_below, circuit_need, circuit_needs, drawn_of, enumerate_from, find, has, idle, keep_last, key_at, key_of, last_of, list_all, list_any, need, routed_to, tally, tally_at, with_routed}
 use Rattle.std.proofs.lemmas.Bool.{true≢false, eqb-true, eq-eqb, ne_eqb, ltb-true, or_left, or_right, or_cases, and_parts}
 use Rattle.std.proofs.lemmas.List.{drop-map, length-map, map-append}
 use Rattle.gts_count.proofs.WindowLemmas.{counts_window}
 use Rattle.gts_event.proofs.LawLemmas.{find_filter, has_drop, last_more}
+use Rattle.std.proofs.lemmas.Grind.{common_steps}
 
 -- ---- a need has the bulletins that its kept draws have
 
@@ -12,11 +13,7 @@ use Rattle.gts_event.proofs.LawLemmas.{find_filter, has_drop, last_more}
 same_keys : (f g : ℕ → List ℕ) (ps : List ℕ) → ((p : ℕ) → has ps p ≡ true → f p ≡ g p) → map f ps ≡ map g ps
 same_keys f g [] h = refl
 same_keys f g (p ∷ ps) h =
-    ap (λ (x : List ℕ). x ∷ map f ps) (h p (or_left (p == p) (has ps p) (itself p)))
-    ∙ ap (λ (xs : List (List ℕ)). g p ∷ xs) (same_keys f g ps (λ q there. h q (or_right (p == q) (has ps q) there)))
-  where
-    itself : (n : ℕ) → (n == n) ≡ true
-    itself n = eq-eqb n n refl
+    grind (arith, common_steps, or_left, or_right, eq-eqb, same_keys f g ps (λ q there. h q (or_right (p == q) (has ps q) there)))
 
 -- a position that is kept on a circuit is needed
 any_kept : (p : ℕ) (cs : List CircuitNeed) → list_any (λ c. has c.kept p) cs ≡ true → list_any (λ c. has c.waiting p || has c.kept p) cs ≡ true
@@ -28,11 +25,7 @@ any_kept p (c ∷ cs) e = elim (or_cases (has c.kept p) (list_any (λ c. has c.k
 
 -- its bulletin has its key in the need too
 key-need : (d : Directory) (s : State) (p : ℕ) → list_any (λ c. has c.kept p) (circuit_needs d s) ≡ true → key_at (need d s).bulletins p ≡ key_at s.accepted p
-key-need d s p kept =
-    ap (λ (o : Option Bulletin). key_of (elim o as (λ _. List ℕ) [ None ↦ [] | Some b ↦ b.body ]))
-    (find_filter (λ (b : Bulletin). is_needed d s.count (circuit_needs d s) b.position) (λ (b : Bulletin). b.position == p) s.accepted
-    (λ b same. or_right (is_recent d s.count b.position) (list_any (λ c. has c.waiting b.position || has c.kept b.position) (circuit_needs d s))
-    (any_kept b.position (circuit_needs d s) (ap (λ (q : ℕ). list_any (λ (c : CircuitNeed). has c.kept q) (circuit_needs d s)) (eqb-true b.position p same) ∙ kept))))
+key-need d s p kept = grind (arith, common_steps, find_filter, or_right, any_kept, eqb-true)
 
 -- the positions that a circuit keeps are the last ones drawn
 positions-enumerate : (n : ℕ) (xs : List ℕ) → map (λ (r : ℕ × ℕ). r.1) (enumerate_from n xs) ≡ xs
@@ -74,13 +67,7 @@ tally-need d s = tally_is (tally d (need d s)) (tally_at d s) (counts_window d s
 
 taken-routed : (cs : List ℕ) (p n : ℕ) (qs : List CircuitState) → map (λ (q : CircuitState). q.taken) (map (λ (r : ℕ × CircuitState). cond (has cs r.0) (with_routed p r.1) r.1) (enumerate_from n qs)) ≡ map (λ (q : CircuitState). q.taken) qs
 taken-routed cs p n [] = refl
-taken-routed cs p n (q ∷ qs) =
-    cons_lists (cond (has cs n) (with_routed p q) q).taken q.taken (map (λ (q : CircuitState). q.taken) (map (λ (r : ℕ × CircuitState). cond (has cs r.0) (with_routed p r.1) r.1) (enumerate_from (n + 1) qs))) (map (λ (q : CircuitState). q.taken) qs)
-    (either (has cs n)) (taken-routed cs p (n + 1) qs)
-  where
-    either : (b : Bool) → (cond b (with_routed p q) q).taken ≡ q.taken
-    either true = refl
-    either false = refl
+taken-routed cs p n (q ∷ qs) = grind (arith, common_steps, cons_lists, taken-routed cs p (n + 1) qs)
 
 -- a bulletin is routed
 pub takens-routed : (cs : List ℕ) (p : ℕ) (s : State) (qs : List CircuitState) → map (λ (q : CircuitState). q.taken) (routed_to cs p qs) ≡ map (λ (q : CircuitState). q.taken) qs
@@ -133,12 +120,7 @@ drawn-more (row ∷ rows) bs b (q ∷ qs) all =
 -- ---- one draw more
 
 keys-more : (f : ℕ → List ℕ) (k : ℕ) (ts : List ℕ) (p : ℕ) → map f (last_of k (ts ++ p ∷ [])) ≡ keep_last k (map f (last_of k ts) ++ f p ∷ [])
-keys-more f k ts p =
-    let mine : List ℕ = last_of k ts ++ p ∷ [] in
-    ap (map f) (sym (last_more k ts (p ∷ [])))
-    ∙ sym (drop-map f (length mine - k) mine)
-    ∙ ap (λ (n : ℕ). drop (n - k) (map f mine)) (sym (length-map mine f))
-    ∙ ap (keep_last k) (map-append f (last_of k ts) (p ∷ []))
+keys-more f k ts p = grind (arith, common_steps, last_more, drop-map, length-map, map-append)
 
 -- the draws of one circuit get one more
 pub drawn-drew : (rows : List Circuit) (bs : List Bulletin) (qs : List CircuitState) (c p : ℕ) (r : CircuitState) → c < length rows → c < length qs → r.taken ≡ (get_or qs c idle).taken ++ p ∷ []
@@ -146,8 +128,6 @@ pub drawn-drew : (rows : List Circuit) (bs : List Bulletin) (qs : List CircuitSt
     ≡ set (drawn_of rows bs (map (λ (q : CircuitState). q.taken) qs)) c (keep_last (get_or (map (λ (row : Circuit). row.kept) rows) c 0) (get_or (drawn_of rows bs (map (λ (q : CircuitState). q.taken) qs)) c [] ++ key_at bs p ∷ []))
 drawn-drew [] bs qs c p r inside within e = absurd (omega (arith, inside))
 drawn-drew (row ∷ rows) bs [] c p r inside within e = absurd (omega (arith, within))
-drawn-drew (row ∷ rows) bs (q ∷ qs) zero p r inside within e =
-    ap (λ (ks : List (List ℕ)). ks ∷ drawn_of rows bs (map (λ (q : CircuitState). q.taken) qs))
-    (ap (λ (ts : List ℕ). map (key_at bs) (last_of row.kept ts)) e ∙ keys-more (key_at bs) row.kept q.taken p)
+drawn-drew (row ∷ rows) bs (q ∷ qs) zero p r inside within e = grind (arith, common_steps, keys-more)
 drawn-drew (row ∷ rows) bs (q ∷ qs) (suc c) p r inside within e =
     ap (λ (kss : List (List (List ℕ))). map (key_at bs) (last_of row.kept q.taken) ∷ kss) (drawn-drew rows bs qs c p r (omega (arith, inside)) (omega (arith, within)) e)

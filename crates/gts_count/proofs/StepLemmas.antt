@@ -1,10 +1,11 @@
 -- The bulletins of the window, when one more joins them.
-use Rattle.std.proofs.Common.{◌≡◌, ℕ, ◌+◌, ◌-◌, ◌<◌, ◌≤◌, Bool, true, false, ◌||◌, ◌==◌, nat_lt, nat_le, cond, inl, inr, List, [], ◌∷◌, ◌++◌, length, map, filter, refl, sym, ap, subst, ◌∙◌, arith}
-use Rattle.gts_count.specs.Cited.{Bulletin, Climbs, Directory, IsHeld, Recent, State, all_joined, is_bulletin, is_recent, joined, leaves, list_all, positions_of, recent_in, recent_of}
+use Rattle.std.proofs.Common.{◌≡◌, ℕ, ◌+◌, ◌-◌, ◌<◌, ◌≤◌, Bool, true, false, ◌||◌, ◌==◌, nat_lt, nat_le, cond, List, [], ◌∷◌, ◌++◌, length, map, filter, refl, sym, ap, subst, ◌∙◌, arith}
+use Rattle.gts_count.specs.Cited.{Bulletin, Climbs, Directory, IsHeld, Recent, State, all_joined, is_bulletin, is_recent, joined, list_all, positions_of, recent_in, recent_of}
 use Rattle.std.proofs.lemmas.Bool.{ne_eqb, ltb-true, le-leb, leb-true, lt-leb, cases_lt, and_parts}
 use Rattle.std.proofs.lemmas.List.{append-nil, append_assoc, length-append}
 use Rattle.std.proofs.lemmas.List.Elements.{filter-append}
 use Rattle.gts_event.proofs.LawLemmas.{bulletin-parts}
+use Rattle.std.proofs.lemmas.Grind.{common_steps}
 
 -- ---- bulletins in the order of their positions, among the last ones of so many
 
@@ -56,36 +57,11 @@ last_ones w n rs = filter (λ (r : Recent). nat_le n (r.position + w)) rs
 
 stay : (w n m : ℕ) (rs : List Recent) → AllAbove m rs → n ≤ m + w → last_ones w (n + 1) rs ≡ rs
 stay w n m [] above near = refl
-stay w n m (r ∷ rs) above near =
-    ap (λ b. cond b (r ∷ last_ones w (n + 1) rs) (last_ones w (n + 1) rs)) (le-leb (n + 1) (r.position + w) (omega (arith, above.0, near)))
-    ∙ ap (λ (xs : List Recent). r ∷ xs) (stay w n m rs above.1 near)
+stay w n m (r ∷ rs) above near = grind (arith, common_steps, le-leb, stay w n m rs above.1 near)
 
 pub joined_last : (w n : ℕ) (rs : List Recent) (b : Recent) → 1 ≤ w → InWindow w n rs → b.position ≡ n → joined w rs b ≡ last_ones w (n + 1) (rs ++ b ∷ [])
 joined_last w n [] b one is at = sym (ap (λ t. cond t (b ∷ []) []) (le-leb (n + 1) (b.position + w) (omega (arith, one, at))))
-joined_last w n (r ∷ rs) b one is at = elim (cases_lt (n - r.position) w) [
-  | inr gone ↦
-      let due : leaves w (r ∷ rs) b.position ≡ true =
-      ap (λ (p : ℕ). leaves w (r ∷ rs) p) at ∙ ap (λ t. t || (length (r ∷ rs) == w)) (le-leb w (n - r.position) gone) in
-      let out : nat_le (n + 1) (r.position + w) ≡ false = lt-leb (n + 1) (r.position + w) (omega (arith, gone, is.0)) in
-      ap (λ t. cond t rs (r ∷ rs) ++ b ∷ []) due
-      ∙ ap (λ (xs : List Recent). xs ++ b ∷ []) (sym (ap (λ t. cond t (r ∷ last_ones w (n + 1) rs) (last_ones w (n + 1) rs)) out ∙ stay w n r.position rs is.2 is.1))
-      ∙ sym (with_last)
-  | inl near ↦
-      let size : length (r ∷ rs) + r.position ≤ n = span w n r rs is in
-      let low : nat_le w (n - r.position) ≡ false = lt-leb w (n - r.position) near in
-      let room : (length (r ∷ rs) == w) ≡ false = ne_eqb (length (r ∷ rs)) w (λ e. omega (arith, e, size, near)) in
-      let due : leaves w (r ∷ rs) b.position ≡ false =
-      ap (λ (p : ℕ). leaves w (r ∷ rs) p) at ∙ ap (λ t. t || (length (r ∷ rs) == w)) low ∙ room in
-      let here : nat_le (n + 1) (r.position + w) ≡ true = le-leb (n + 1) (r.position + w) (omega (arith, near)) in
-      ap (λ t. cond t rs (r ∷ rs) ++ b ∷ []) due
-      ∙ ap (λ (xs : List Recent). xs ++ b ∷ []) (sym (ap (λ t. cond t (r ∷ last_ones w (n + 1) rs) (last_ones w (n + 1) rs)) here ∙ ap (λ (xs : List Recent). r ∷ xs) (stay w n r.position rs is.2 is.1)))
-      ∙ sym (with_last)
-]
-  where
-    with_last : last_ones w (n + 1) (r ∷ rs ++ b ∷ []) ≡ last_ones w (n + 1) (r ∷ rs) ++ b ∷ []
-    with_last =
-        filter-append (λ (x : Recent). nat_le (n + 1) (x.position + w)) (r ∷ rs) (b ∷ [])
-        ∙ ap (λ t. last_ones w (n + 1) (r ∷ rs) ++ cond t (b ∷ []) []) (le-leb (n + 1) (b.position + w) (omega (arith, one, at)))
+joined_last w n (r ∷ rs) b one is at = grind (arith, common_steps, cases_lt, le-leb, lt-leb, stay, span, ne_eqb, filter-append)
 
 -- ---- those of a start join, one after another
 

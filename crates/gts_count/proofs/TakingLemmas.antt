@@ -68,10 +68,7 @@ module _ (d : Directory) (s : State) (h : List Entry) (old new : Counting) (c : 
   counts_taken frame (Ok Nothing) told says noted counts = undrawn_after Nothing (told Nothing refl) (λ i e. cc e) noted counts
   counts_taken frame (Err DiskFault) told says noted counts = outdated_after old new noted
   counts_taken frame (Err SayFault) told says noted counts = outdated_after old new noted
-  counts_taken frame (Err (Full a b l)) told says noted counts = same_after d s h old new noted counts
-  counts_taken frame (Err (Stopped by)) told says noted counts = same_after d s h old new noted counts
-  counts_taken frame (Err Spent) told says noted counts = same_after d s h old new noted counts
-  counts_taken frame (Err NoMemory) told says noted counts = same_after d s h old new noted counts
+  counts_taken frame _ told says noted counts = same_after d s h old new noted counts
 
 module _ (d : Directory) (s : State) (h : List Entry) (old new : Counting) where
   -- a loss changes no state
@@ -86,10 +83,7 @@ module _ (d : Directory) (s : State) (h : List Entry) (old new : Counting) where
   counts_lost c field (Ok Nothing) noted counts = same_after d s h old new noted counts
   counts_lost c field (Err DiskFault) noted counts = outdated_after old new noted
   counts_lost c field (Err SayFault) noted counts = outdated_after old new noted
-  counts_lost c field (Err (Full a b l)) noted counts = same_after d s h old new noted counts
-  counts_lost c field (Err (Stopped by)) noted counts = same_after d s h old new noted counts
-  counts_lost c field (Err Spent) noted counts = same_after d s h old new noted counts
-  counts_lost c field (Err NoMemory) noted counts = same_after d s h old new noted counts
+  counts_lost c field _ noted counts = same_after d s h old new noted counts
 
   -- the journal was opened again, or it wasn't
   pub counts_restarted : (result : Result (Unit {0}) OpenFault) → Counts d s h old → Counts d (after_all d s (restart_of result)) (h ++ restart_of result) old

@@ -1,26 +1,20 @@
 -- The bulletins of the window, when one more is accepted.
-use Rattle.std.proofs.Common.{◌≡◌, ℕ, ◌+◌, ◌≤◌, Bool, true, false, ◌||◌, nat_le, cond, List, [], ◌∷◌, ◌++◌, map, filter, refl, sym, ap, ◌∙◌}
-use Rattle.gts_count.specs.Cited.{Accepted, Bulletin, Directory, HasWindow, Heard, Kind, Outcome, Recent, State, after, after_heard, arrived, body_of, circuit_needs, counted_with, has, heading_of_message, heard_of, is_needed, is_recent, last_counted, list_any, named, need, outcome, positions_of, recent, recent_of, recent_positions, tally}
+use Rattle.std.proofs.Common.{◌≡◌, ℕ, ◌+◌, ◌≤◌, nat_le, List, [], ◌∷◌, ◌++◌, map, filter, refl, sym, ap, ◌∙◌}
+use Rattle.gts_count.specs.Cited.{Accepted, Bulletin, Directory, HasWindow, Heard, Kind, Outcome, Recent, State, after, after_heard, arrived, body_of, counted_with, has, heading_of_message, heard_of, last_counted, named, need, outcome, recent, recent_of, tally}
 use Rattle.gts_event.specs.History.{with_bulletin}
 use Rattle.std.proofs.lemmas.List.{map-append}
 use Rattle.gts_event.proofs.LawLemmas.{filter_first, recent_more, recent_all, accepted_position}
+use Rattle.std.proofs.lemmas.Grind.{common_steps}
+use Rattle.std.proofs.Common.{arith}
 
 -- what is counted is what the window has, though a need has fewer bulletins than a state
 pub counts_window : (d : Directory) (t : State) → (tally d (need d t)).recent ≡ map recent_of (recent d t)
-counts_window d t =
-    let others : ℕ → Bool = λ position. list_any (λ c. has c.waiting position || has c.kept position) (circuit_needs d t) in
-    ap (map recent_of) (filter_first (λ (b : Bulletin). is_needed d t.count (circuit_needs d t) b.position) (λ (b : Bulletin). is_recent d t.count b.position) t.accepted
-    (λ x k. ap (λ r. r || others x.position) k))
+counts_window d t = grind (arith, common_steps, filter_first)
 
 -- what is counted of the last ones
 counts_last : (w n : ℕ) (bs : List Bulletin) → map recent_of (filter (λ (b : Bulletin). nat_le n (b.position + w)) bs) ≡ filter (λ (r : Recent). nat_le n (r.position + w)) (map recent_of bs)
 counts_last w n [] = refl
-counts_last w n (b ∷ bs) =
-    elim (nat_le n (b.position + w)) as (λ t. map recent_of (cond t (b ∷ filter (λ (b : Bulletin). nat_le n (b.position + w)) bs) (filter (λ (b : Bulletin). nat_le n (b.position + w)) bs))
-    ≡ cond t (recent_of b ∷ filter (λ (r : Recent). nat_le n (r.position + w)) (map recent_of bs)) (filter (λ (r : Recent). nat_le n (r.position + w)) (map recent_of bs))) [
-      | true ↦ ap (λ (rs : List Recent). recent_of b ∷ rs) (counts_last w n bs)
-      | false ↦ counts_last w n bs
-    ]
+counts_last w n (b ∷ bs) = grind (arith, common_steps, counts_last w n bs)
 
 -- the bulletin that a message is accepted as
 abbrev new_bulletin : State → ℕ → Kind → List ℕ → Bulletin
@@ -46,7 +40,4 @@ joins_window d s c kind m p n is =
     ∙ ap (λ (q : ℕ). counted_with d s (arrived q (heard_of c m))) (sym (accepted_position d s c kind m p n is))
 
 pub window_goes_on : (d : Directory) (s : State) (c : ℕ) (kind : Kind) (m : List ℕ) (p n : ℕ) → 1 ≤ d.window → HasWindow d s → outcome d s (Heard c kind m) ≡ Accepted p n → HasWindow d (after d s (Heard c kind m))
-window_goes_on d s c kind m p n one has is =
-    let t : State = then d s c kind m in
-    let whole : HasWindow d t = recent_all d s (new_bulletin s c kind m) t one has refl refl refl in
-    ap (λ (x : State). positions_of (recent d x)) (is_then d s c kind m p n is) ∙ whole ∙ ap (λ (x : State). recent_positions d x.count) (sym (is_then d s c kind m p n is))
+window_goes_on d s c kind m p n one has is = grind (arith, common_steps, recent_all, is_then)

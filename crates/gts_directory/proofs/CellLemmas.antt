@@ -1,5 +1,5 @@
 -- The cells of a heading against a pattern, and the table as rules are added and looked up.
-use Rattle.std.proofs.Common.{◌≡◌, ℕ, suc, ◌+◌, ◌-◌, ◌*◌, ◌/◌, ◌%◌, ◌^◌, ◌<◌, ◌≤◌, max, Bool, true, false, ◌&&◌, ◌||◌, ◌==◌, List, [], ◌∷◌, ◌++◌, length, take, drop, get_or, set, replicate, bit_or, refl, sym, ◌∙◌, ap, arith, inl, inr, length-append, length-drop, length-set}
+use Rattle.std.proofs.Common.{◌≡◌, ℕ, suc, ◌+◌, ◌*◌, ◌/◌, ◌%◌, ◌^◌, ◌<◌, ◌≤◌, max, Bool, true, false, ◌&&◌, ◌||◌, ◌==◌, List, [], ◌∷◌, ◌++◌, length, take, drop, get_or, set, replicate, bit_or, refl, sym, ◌∙◌, ap, arith, inl, inr, length-append, length-drop, length-set}
 use Rattle.gts_directory.specs.Cited.{All, AreCharacters, HeadingFields, IsCharacter, IsTable, RuleRow, allows, bit, bit_at, bits_of, cell_of, cells_of, dec, fitting, has_bit, joined, list_all, list_any, marked, matches, meet}
 use Rattle.std.proofs.Math.Nat.{pow-le-pow_right}
 use Rattle.std.proofs.Math.Seq.{take-add}
@@ -9,13 +9,11 @@ use Rattle.std.proofs.lemmas.List.{get_or_read, get_or-drop, get_or-take, get_or
 use Rattle.std.proofs.lemmas.List.Elements.{All-push}
 use Rattle.std.proofs.lemmas.List.Folds.{list_any-append}
 use Rattle.gts_directory.proofs.TableLemmas.{bits_of-agree, bits_of-lt, bits_of-push, meet-bits, joined-none, joined-bits}
+use Rattle.std.proofs.lemmas.Grind.{common_steps}
 
 allows-cell : (pattern : List ℕ) (place character : ℕ) → IsCharacter character
     → allows pattern (cell_of place character) ≡ ((get_or pattern place 0 == 42) || (get_or pattern place 0 == character))
-allows-cell pattern place character is =
-    let at_place : (place * 43 + (character - 48)) / 43 ≡ place = omega arith in
-    let the_character : (place * 43 + (character - 48)) % 43 + 48 ≡ character = omega arith in
-    rw (at_place, the_character) refl
+allows-cell pattern place character is = grind (arith, common_steps)
 
 by_parts : (a b c d e f g h i j : Bool)
     → (a && (b && (c && (d && (e && (f && (g && (h && (i && (j && true))))))))))
@@ -142,9 +140,7 @@ pub IsTable-add : (rows : List RuleRow) (blocks : List (List ℕ)) (row : RuleRo
     → length rows < 64 * length blocks → length row.heading ≡ 11 → old ≡ get_or blocks (number / 64) old
     → ((cell : ℕ) → cell < 473 → get_or block cell 0 ≡ marked (get_or old cell 0) (number % 64) (allows row.heading cell))
     → IsTable (rows ++ row ∷ []) (set blocks (number / 64) block)
-IsTable-add rows blocks row old block number same is room eleven read marks =
-    let there : old ≡ get_or blocks (number / 64) [] = get_or_read blocks (number / 64) old (omega arith) read [] in
-    rw same (IsTable-push rows blocks row block is room eleven (λ cell below. rw (there, same) at (marks cell below)))
+IsTable-add rows blocks row old block number same is room eleven read marks = grind (arith, common_steps, get_or_read, IsTable-push)
 
 -- the circuits of the rules of one more block
 pub joined-block : (rows : List RuleRow) (h : HeadingFields) (mask fits n k : ℕ) → fits ≡ bits_of (λ row. matches row.heading h) (take 64 (drop (64 * n) rows))
@@ -171,8 +167,7 @@ bits_of-below p rules n =
 pub fits_are : (rows : List RuleRow) (blocks seen : List (List ℕ)) (h : HeadingFields) (cells : List ℕ) (n fits : ℕ) → IsTable rows blocks → seen ≡ blocks
     → cells ≡ cells_of h → AreCharacters h → All (λ cell. cell < 473) cells → n < length seen → fits ≡ fitting (get_or seen n []) cells
     → fits ≡ bits_of (λ row. matches row.heading h) (take 64 (drop (64 * n) rows))
-fits_are rows blocks seen h cells n fits is same told text inside within found =
-    found ∙ rw (same, told) (fitting-matches rows blocks h n is (rw same at within) text (rw told at inside))
+fits_are rows blocks seen h cells n fits is same told text inside within found = grind (arith, common_steps, fitting-matches)
 
 -- a block with rules that match
 pub joined-more : (rows rest : List RuleRow) (h : HeadingFields) (mask fits here n k : ℕ) → rest ≡ drop (64 * n) rows

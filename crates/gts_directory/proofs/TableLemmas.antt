@@ -6,6 +6,7 @@ use Rattle.std.proofs.lemmas.Bool.{cases_Bool, ltb-true}
 use Rattle.std.proofs.lemmas.Bool.Decides.{nat_tests}
 use Rattle.std.proofs.lemmas.Nat.{or_comm, or_shifted, one_shl}
 use Rattle.std.proofs.lemmas.Nat.Bits.{bit_at_or, bit_at-trailing_zeros, bit_at_lowest, bit_at-suc, bit_at-zero, bit_at_and, bit_at-lt, bit_at_above, same_from_bits}
+use Rattle.std.proofs.lemmas.Grind.{common_steps}
 
 half : (b : Bool) (n : ℕ) → (bit b + 2 * n) / 2 ≡ n
 half true n = omega arith
@@ -30,12 +31,8 @@ higher_bit b n i = bit_at-suc (bit b + 2 * n) i ∙ ap (λ m. bit_at m i) (half 
 bit_at-both : (p q : RuleRow → Bool) (rules : List RuleRow) (i : ℕ)
     → bit_at (bits_of (λ row. p row && q row) rules) i ≡ min (bit_at (bits_of p rules) i) (bit_at (bits_of q rules) i)
 bit_at-both p q [] i = let none = bit_at-zero i in rw none refl
-bit_at-both p q (rule ∷ rules) zero =
-    rw (lowest_bit (p rule && q rule) (bits_of (λ row. p row && q row) rules), lowest_bit (p rule) (bits_of p rules), lowest_bit (q rule) (bits_of q rules))
-    (min-bits (p rule) (q rule))
-bit_at-both p q (rule ∷ rules) (suc i) =
-    rw (higher_bit (p rule && q rule) (bits_of (λ row. p row && q row) rules) i, higher_bit (p rule) (bits_of p rules) i, higher_bit (q rule) (bits_of q rules) i)
-    (bit_at-both p q rules i)
+bit_at-both p q (rule ∷ rules) zero = grind (arith, common_steps, lowest_bit, min-bits)
+bit_at-both p q (rule ∷ rules) (suc i) = grind (arith, common_steps, higher_bit, bit_at-both p q rules i)
 
 -- the rules that pass both tests
 bits_of-and : (p q : RuleRow → Bool) (rules : List RuleRow) → bit_and (bits_of p rules) (bits_of q rules) ≡ bits_of (λ row. p row && q row) rules
@@ -108,9 +105,7 @@ meet-bits block (cell ∷ cells) p rules marks inside =
 -- of no rules none are left
 pub meet-none : (block cells : List ℕ) → meet block cells 0 ≡ 0
 meet-none block [] = refl
-meet-none block (cell ∷ cells) =
-    let none : bit_and 0 (get_or block cell 0) ≡ 0 = same_from_bits _ _ (λ i. bit_at_and 0 (get_or block cell 0) i ∙ rw (bit_at-zero i) (omega arith)) in
-    rw none (meet-none block cells)
+meet-none block (cell ∷ cells) = grind (arith, common_steps, same_from_bits, bit_at_and, bit_at-zero, meet-none block cells)
 
 -- the first two cells, and the others
 pub fitting-two : (block cells : List ℕ) → 2 ≤ length cells
@@ -125,22 +120,13 @@ joined-none [] k = refl
 joined-none (rule ∷ rules) k = let rest = joined-none rules k in omega arith
 
 power_within : (n i : ℕ) → bit_at n i ≡ 1 → 2 ^ i ≤ n
-power_within n i set =
-    elim (cases_Bool (nat_lt n (2 ^ i))) [
-      | inl less ↦ let none = bit_at_above n i i (ltb-true _ _ less) (omega arith) in absurd (omega arith)
-      | inr not_less ↦ grind (arith, nat_tests)
-    ]
+power_within n i set = grind (arith, common_steps, cases_Bool, bit_at_above, ltb-true, nat_tests)
 
 -- a rule whose bit is set, and the others
 pub joined-split : (rules : List RuleRow) (fits i k : ℕ) (d : RuleRow) → bit_at fits i ≡ 1 → i < length rules
     → joined rules fits k ≡ max (bit_at (get_or rules i d).to k) (joined rules (fits - 2 ^ i) k)
 joined-split [] fits i k d set within = absurd (omega arith)
-joined-split (rule ∷ rules) fits zero k d set within =
-    let odd : fits % 2 ≡ 1 = sym (bit_at_lowest fits) ∙ set in
-    let even : (fits - 1) % 2 ≡ 0 = omega arith in
-    let same : (fits - 1) / 2 ≡ fits / 2 = omega arith in
-    let small = bit_at-lt rule.to k in
-    rw (odd, even, same) (omega arith)
+joined-split (rule ∷ rules) fits zero k d set within = grind (arith, common_steps, bit_at_lowest, bit_at-lt)
 joined-split (rule ∷ rules) fits (suc i) k d set within =
     let set_above : bit_at (fits / 2) i ≡ 1 = sym (bit_at-suc fits i) ∙ set in
     let rest = joined-split rules (fits / 2) i k d set_above (omega arith) in

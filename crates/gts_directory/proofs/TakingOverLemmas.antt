@@ -1,10 +1,11 @@
 -- Which directory takes over from another one: the loops over its rows, and what both forms of the definition say.
-use Rattle.std.proofs.Common.{◌≡◌, ℕ, zero, suc, ◌+◌, ◌<◌, ◌≤◌, Bool, true, false, nat_eq, nat_le, List, [], ◌∷◌, length, map, get_or, drop, Option, None, Some, cond, refl, sym, ◌∙◌, ap, arith, inl, inr}
+use Rattle.std.proofs.Common.{◌≡◌, ℕ, zero, suc, ◌+◌, ◌<◌, ◌≤◌, Bool, true, false, nat_eq, List, [], ◌∷◌, length, map, get_or, drop, Option, None, Some, cond, refl, sym, ◌∙◌, ap, arith, inl, inr}
 use Rattle.gts_directory.specs.Cited.{BeginWith, Change, Circuit, Directory, KeepsPlace, Rows, TakesOver, change_in, circuit_of_row, directory_of_rows, first_change, first_changed, keeps_place, option_or, pointwise, row_keeps_place, top_stays}
 use Rattle.std.proofs.lemmas.Bool.{cases_Bool, eqb-true, and_parts}
 use Rattle.gts_directory.specs.declared.fault.Part as part
 use Rattle.gts_directory.specs.declared.fault.Part.TheVariants as parts
 use Rattle.gts_directory.proofs.NameLemmas.{same_as_itself}
+use Rattle.std.proofs.lemmas.Grind.{common_steps}
 
 -- all rows below i stay
 pub record AllStayBelow {A : Type 0} (stays : A → A → Bool) (old new : List A) (i : ℕ) : Type 0 where
@@ -29,8 +30,7 @@ differs : {A : Type 0} (stays : A → A → Bool) (n i : ℕ) (old new : List A)
 differs stays n i [] new d e within there other = absurd (omega (arith, within))
 differs stays n i (row ∷ old) [] d e within there other = absurd (omega (arith, there))
 differs stays n zero (row ∷ old) (new ∷ rows) d e within there other = rw other refl
-differs stays n (suc i) (row ∷ old) (new ∷ rows) d e within there other =
-    differs stays n i old rows d e (omega (arith, within)) (omega (arith, there)) other
+differs stays n (suc i) (row ∷ old) (new ∷ rows) d e within there other = grind (arith, common_steps)
 
 -- one that stays is passed over
 passed : {A : Type 0} (stays : A → A → Bool) (n i : ℕ) (old new : List A) (d e : A) → i < length old → i < length new
@@ -52,20 +52,14 @@ found_other stays i old new d e below within there other = sym (differs stays i 
 
 pub next_stays : {A : Type 0} (stays : A → A → Bool) (i : ℕ) (old new : List A) (d e : A) → AllStayBelow stays old new i
     → i < length old → i < length new → stays (get_or old i d) (get_or new i e) ≡ true → AllStayBelow stays old new (i + 1)
-next_stays stays i old new d e below within there same =
-    let one : i + 1 ≡ suc i = omega arith in
-    record { rest = ap (λ (k : ℕ). first_changed stays (i + 1) (drop k old) (drop k new)) one ∙ sym (passed stays i i old new d e within there same) ∙ below.rest }
+next_stays stays i old new d e below within there same = grind (arith, common_steps, passed)
 
 -- the rows of a directory are looked at as they are
 first_changed-map : {A B : Type 0} (stays : B → B → Bool) (f g : A → B) (n : ℕ) (old new : List A)
     → first_changed (λ a b. stays (f a) (g b)) n old new ≡ first_changed stays n (map f old) (map g new)
 first_changed-map stays f g n [] new = refl
 first_changed-map stays f g n (row ∷ old) [] = refl
-first_changed-map stays f g n (row ∷ old) (new ∷ rows) =
-    elim (cases_Bool (stays (f row) (g new))) [
-      | inl same ↦ rw same (first_changed-map stays f g (n + 1) old rows)
-      | inr other ↦ rw other refl
-    ]
+first_changed-map stays f g n (row ∷ old) (new ∷ rows) = grind (arith, common_steps, cases_Bool, first_changed-map stays f g (n + 1) old rows)
 
 -- equal texts
 same_text : (xs ys : List ℕ) → pointwise nat_eq xs ys ≡ true → ys ≡ xs
@@ -81,16 +75,10 @@ text_same xs ys same = rw same (same_as_itself xs)
 
 -- both forms of what stays
 circuit_from : (old new : Circuit) → keeps_place old new ≡ true → KeepsPlace old new
-circuit_from old new h =
-    let (name, peer) = and_parts (pointwise nat_eq old.name new.name) (pointwise nat_eq old.peer new.peer) h in
-    record {
-      name = same_text _ _ name;
-      peer = same_text _ _ peer;
-    }
+circuit_from old new h = grind (arith, common_steps, and_parts, same_text)
 
 from_circuit : (old new : Circuit) → KeepsPlace old new → keeps_place old new ≡ true
-from_circuit old new stays =
-    rw (text_same _ _ stays.name, text_same _ _ stays.peer) refl
+from_circuit old new stays = grind (arith, common_steps, text_same)
 
 -- all rows stay exactly where none is the first that doesn't
 begin_with : {A : Type 0} (stays : A → A → Bool) (Stays : A → A → Type 0) → ((a b : A) → stays a b ≡ true → Stays a b)
@@ -131,17 +119,10 @@ top_none false h = absurd (cc)
 
 -- no row changes exactly where the directory takes over from the old one
 pub takes_over_from : (new old : Directory) → first_change new old ≡ None → TakesOver new old
-takes_over_from new old h =
-    let (top, circuits) = join_none _ _ h in
-    record {
-      centre = top_from old new (top_none _ top);
-      circuits = begin_with keeps_place KeepsPlace circuit_from 0 _ _ (no_change _ _ circuits);
-    }
+takes_over_from new old h = grind (arith, common_steps, join_none, top_from, top_none, begin_with, circuit_from, no_change)
 
 pub none_from : (new old : Directory) → TakesOver new old → first_change new old ≡ None
-none_from new old e =
-    rw (from_top old new e.centre)
-    (rw (none_changed keeps_place KeepsPlace from_circuit 0 _ _ e.circuits) refl)
+none_from new old e = grind (arith, common_steps, from_top, none_changed, from_circuit)
 
 -- a circuit is the first row that doesn't stay, or none is
 pub circuit_change : (new old : Rows) (row : Option ℕ) → top_stays (directory_of_rows old) (directory_of_rows new) ≡ true

@@ -6,6 +6,7 @@ use Rattle.gts_engine.proofs.AnswerLemmas.{EachHeld, answered, stopped_leaves}
 use Rattle.gts_engine.proofs.GatherLemmas.{fails_after}
 use Rattle.gts_engine.proofs.SettlingLemmas.{drawn_settled}
 use Rattle.gts_engine.proofs.StepLemmas.{part_directory, part_station, part_core, part_stopped, part_used, part_held, told_well, told_badly, told_sound, untold}
+use Rattle.std.proofs.lemmas.Grind.{common_steps}
 
 -- a call whose answer tells of no device that failed
 abbrev pub NoDevice : {T : Type 0} → Result T SwitchFault → Type 0
@@ -13,28 +14,15 @@ NoDevice r = (r ≡ Err DiskFault → ⊥) × (r ≡ Err SayFault → ⊥)
 
 -- one that was done
 pub no_device_done : {T : Type 0} (r : Result T SwitchFault) (done : T) → r ≡ Ok done → NoDevice r
-no_device_done {T} r done ok = (never DiskFault, never SayFault)
-  where
-    never : (f : SwitchFault) → r ≡ Err f → ⊥
-    never f e = let no : ◌≡◌ {A = Result T SwitchFault} (Ok done) (Err f) = sym ok ∙ e in cc no
+no_device_done {T} r done ok = grind (arith, common_steps)
 
 -- one that found the journal full
 pub no_device_full : (r : Result Outcome SwitchFault) (bytes : ℕ) → bytes_wanted r ≡ Some bytes → NoDevice r
-no_device_full r bytes wanted = (never DiskFault refl, never SayFault refl)
-  where
-    never : (f : SwitchFault) → bytes_wanted (Err f) ≡ None → r ≡ Err f → ⊥
-    never f none e = let no : None ≡ Some bytes = sym none ∙ sym (ap bytes_wanted e) ∙ wanted in cc no
+no_device_full r bytes wanted = grind (arith, common_steps)
 
 -- the causes of two calls, one after another, of which the first tells of no device
 pub cause_then : {S T : Type 0} (first : Result S SwitchFault) (result : Result T SwitchFault) (a b c x y z : ℕ) → NoDevice first → HasCallCause first a b x y → HasCallCause result b c y z → HasCallCause result a c x z
-cause_then first result a b c x y z none p q = record {
-  disk_later = omega (arith, p.disk_later, q.disk_later);
-  disk_failed = λ e. omega (arith, p.disk_later, q.disk_failed e);
-  disk_still = λ no. q.disk_still no ∙ p.disk_still none.0;
-  say_later = omega (arith, p.say_later, q.say_later);
-  say_failed = λ e. omega (arith, p.say_later, q.say_failed e);
-  say_still = λ no. q.say_still no ∙ p.say_still none.1;
-}
+cause_then first result a b c x y z none p q = grind (arith, common_steps)
 
 module _ {P : Type 0} (station : StationMeanings P) (result : Result (Unit {0}) SwitchFault) (old mid : EngineParts P) where
   pub may_directory : MayHaveSettled station result old mid → mid.directory ≡ old.directory
@@ -93,73 +81,25 @@ may_used station result old mid (inr settled) ok = subst (λ (r : Result (Unit {
 pub draws_still : {P : Type 0} (station : StationMeanings P) (result : Result (Unit {0}) SwitchFault) (old mid : EngineParts P) (c : ℕ) → MayHaveSettled station result old mid
     → slice_index_or old.drawn c 0 < most_drawn old.directory c → slice_index_or mid.drawn c 0 < most_drawn mid.directory c
 draws_still {P} station result old mid c (inl same) few = subst (λ (p : EngineParts P). slice_index_or p.drawn c 0 < most_drawn p.directory c) (sym same.1) few
-draws_still station result old mid c (inr settled) few =
-    let D : Directory → Type 0 = λ d. slice_index_or mid.drawn c 0 < most_drawn d c in
-    subst D (sym (ap part_directory settled.rest)) (omega (arith, few, drawn_settled station result old mid settled c))
+draws_still station result old mid c (inr settled) few = grind (arith, common_steps, part_directory, drawn_settled)
 
 -- ---- answers with the same fault
 
 -- a fault stops the engine by whatever call it was answered
 pub stops_alike : (S T : Type 0) (before : Option Device) (f : SwitchFault) → stopped_after before (let r : Result S SwitchFault = Err f in r) ≡ stopped_after before (let r : Result T SwitchFault = Err f in r)
-stops_alike S T before DiskFault = refl
-stops_alike S T before SayFault = refl
-stops_alike S T before (Full used need limit) = refl
-stops_alike S T before (Stopped by) = refl
-stops_alike S T before Spent = refl
-stops_alike S T before NoMemory = refl
+stops_alike S T before _ = refl
 
 -- and has the same cause
 pub cause_alike : {S T : Type 0} (result : Result S SwitchFault) (f : SwitchFault) (a b x y : ℕ) → result ≡ Err f → HasCallCause result a b x y → HasCallCause (let r : Result T SwitchFault = Err f in r) a b x y
-cause_alike {S} {T} result f a b x y failed c = record {
-  disk_later = c.disk_later;
-  disk_failed = λ e. c.disk_failed (failed ∙ by_fault DiskFault e);
-  disk_still = λ no. c.disk_still (λ e. no (back DiskFault e));
-  say_later = c.say_later;
-  say_failed = λ e. c.say_failed (failed ∙ by_fault SayFault e);
-  say_still = λ no. c.say_still (λ e. no (back SayFault e));
-}
-  where
-    by_fault : (w : SwitchFault) → (let r : Result T SwitchFault = Err f in r) ≡ Err w → (let r : Result S SwitchFault = Err f in r) ≡ Err w
-    by_fault w e = let same : f ≡ w = cc e in (let E : SwitchFault → Result S SwitchFault = λ g. Err g in ap E same)
-
-    back : (w : SwitchFault) → result ≡ Err w → (let r : Result T SwitchFault = Err f in r) ≡ Err w
-    back w e =
-        let both : ◌≡◌ {A = Result S SwitchFault} (Err f) (Err w) = sym failed ∙ e in
-        let same : f ≡ w = cc both in
-        let E : SwitchFault → Result T SwitchFault = λ g. Err g in
-        ap E same
+cause_alike {S} {T} result f a b x y failed c = grind (arith, common_steps)
 
 -- an answer that is no fault has no cause
 pub cause_none : {S T : Type 0} (first : Result S SwitchFault) (done : S) (answer : T) (a b x y : ℕ) → first ≡ Ok done → HasCallCause first a b x y → HasCallCause (let r : Result T SwitchFault = Ok answer in r) a b x y
-cause_none first done answer a b x y ok c =
-    let none = no_device_done first done ok in
-    record {
-      disk_later = c.disk_later;
-      disk_failed = λ e. absurd (cc e);
-      disk_still = λ no. c.disk_still none.0;
-      say_later = c.say_later;
-      say_failed = λ e. absurd (cc e);
-      say_still = λ no. c.say_still none.1;
-    }
+cause_none first done answer a b x y ok c = grind (arith, common_steps, no_device_done)
 
 -- the cause of what was told
 told_cause : {P : Type 0} (station : StationMeanings P) (r : Result (Unit {0}) SwitchFault) (old new : P) → IfErr r (λ fault. fault ≡ SayFault) → AsksOutput station r old new → HasStationCause station r old new
-told_cause station (Ok done) old new is asks = record {
-  disk_later = omega (arith, asks.disk);
-  disk_failed = λ e. absurd (cc e);
-  disk_still = λ no. asks.disk;
-  say_later = asks.later;
-  say_failed = λ e. absurd (cc e);
-  say_still = λ no. asks.sound;
-}
-told_cause station (Err f) old new is asks = record {
-  disk_later = omega (arith, asks.disk);
-  disk_failed = λ e. absurd (let no : f ≡ DiskFault = cc e in let bad : SayFault ≡ DiskFault = sym is ∙ no in cc bad);
-  disk_still = λ no. asks.disk;
-  say_later = asks.later;
-  say_failed = λ e. asks.failed refl;
-  say_still = λ no. absurd (no (let E : SwitchFault → Result (Unit {0}) SwitchFault = λ g. Err g in ap E is));
-}
+told_cause station _ old new is asks = grind (arith, common_steps)
 
 module _ {P : Type 0} (station : StationMeanings P) (first old : EngineParts P) (cleared : Result (Unit {0}) SwitchFault)
     (clears : MayHaveSettled station cleared first old) (ok : cleared ≡ Ok tt) (going : first.stopped ≡ None) where
@@ -300,10 +240,7 @@ module _ {P : Type 0} (station : StationMeanings P) (mode : SayMode) (event : Ev
 pub still_counts : {P : Type 0} (station : StationMeanings P) (mode : SayMode) (event : Event) (result : Option Outcome) (old new : EngineParts P) → IfNone result (new ≡ old)
     → IfSome result (λ o. AnswersIn station mode event (Ok o) old new) → (station.disk_faults new.station ≡ station.disk_faults old.station) × (station.say_faults new.station ≡ station.say_faults old.station)
 still_counts {P} station mode event None old new same answered = (ap (λ (p : EngineParts P). station.disk_faults p.station) same, ap (λ (p : EngineParts P). station.say_faults p.station) same)
-still_counts station mode event (Some o) old new same answered =
-    let r : Result Outcome SwitchFault = Ok o in
-    let none = no_device_done r o refl in
-    (answered.cause.disk_still none.0, answered.cause.say_still none.1)
+still_counts station mode event (Some o) old new same answered = grind (arith, common_steps, no_device_done, answered)
 
 -- ---- the same in the words of a switch
 

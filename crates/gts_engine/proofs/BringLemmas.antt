@@ -129,7 +129,4 @@ module _ {P : Type 0} (station : StationMeanings P) (mode : SayMode) (o : Origin
       }
   settles (Err SayFault) new next directory core gathered held stops brings says used kind =
       failed_at new next says.0 says.1 directory gathered held stops brings
-  settles (Err (Full at wanted limit)) new next directory core gathered held stops brings says used kind = absurd kind
-  settles (Err (Stopped by)) new next directory core gathered held stops brings says used kind = absurd kind
-  settles (Err Spent) new next directory core gathered held stops brings says used kind = absurd kind
-  settles (Err NoMemory) new next directory core gathered held stops brings says used kind = absurd kind
+  settles _ new next directory core gathered held stops brings says used kind = absurd kind

@@ -3,24 +3,20 @@ use Rattle.std.proofs.Common.{◌≡◌, ℕ, Option, Some, None, Result, Ok, Er
 use Rattle.gts_engine.specs.Cited.{Device, DiskFault, Engine, Event, Full, HasCallCause, IsAnswered, IsCalled, IsDeviceFault, IsIdleAnswer, IsSettling, NoMemory, Outcome, SayFault, SayMode, Spent, StationMeanings, Stopped, SwitchFault, meanings_of, stopped_after}
 use Rattle.gts_engine.proofs.AnswerLemmas.{called_failed, called_unsettled, called_done}
 use Rattle.gts_engine.proofs.AnsweringLemmas.{NoDevice, cause_then, cause_alike, cause_none}
+use Rattle.std.proofs.lemmas.Grind.{common_steps}
+use Rattle.std.proofs.Common.{arith}
 
 -- the fault of a device stops by whatever call it was answered, whatever stopped before
 pub device_stops : (S T : Type 0) (fault : SwitchFault) (before other : Option Device) → IsDeviceFault fault → stopped_after before (let r : Result S SwitchFault = Err fault in r) ≡ stopped_after other (let r : Result T SwitchFault = Err fault in r)
 device_stops S T DiskFault before other is = refl
 device_stops S T SayFault before other is = refl
-device_stops S T (Full used need limit) before other is = absurd is
-device_stops S T (Stopped by) before other is = absurd is
-device_stops S T Spent before other is = absurd is
-device_stops S T NoMemory before other is = absurd is
+device_stops S T _ before other is = absurd is
 
 -- and is no answer with which nothing changed
 pub device_active : (fault : SwitchFault) → IsDeviceFault fault → IsIdleAnswer (Err fault) → ⊥
 device_active DiskFault is idle = idle
 device_active SayFault is idle = idle
-device_active (Full used need limit) is idle = is
-device_active (Stopped by) is idle = is
-device_active Spent is idle = is
-device_active NoMemory is idle = is
+device_active _ is idle = is
 
 -- one that stopped answers no outcome
 pub never_stopped : (A : Type 0) (stopped : Option Device) (first : Result Outcome SwitchFault) (answer : Outcome) (B : Device → Type 0) → first ≡ Ok answer → IfSome stopped (λ by. (first ≡ Err (Stopped by)) × A) → IfSome stopped B
@@ -36,8 +32,7 @@ pub failed_active : {T : Type 0} (r : Result T SwitchFault) (fault : SwitchFault
 failed_active r fault is device = device_active fault (of_fault r fault IsDeviceFault is device)
 
 pub unsaid_active : {T : Type 0} (r : Result T SwitchFault) (fault : SwitchFault) → r ≡ Err fault → IfErr r (λ f. f ≡ SayFault) → IsIdleAnswer (Err fault) → ⊥
-unsaid_active r fault is say =
-    device_active fault (subst IsDeviceFault (sym (of_fault r fault (λ f. f ≡ SayFault) is say)) tt)
+unsaid_active r fault is say = grind (arith, common_steps, device_active, of_fault)
 
 module _ {P : Type 0} (station : StationMeanings P) (mode : SayMode) (event : Event) (old mid : Engine P) (first : Result Outcome SwitchFault) (answered : IsAnswered (meanings_of station mode) event first old mid) where
   -- the call failed
@@ -96,10 +91,7 @@ never_settled A (Some by) settled fault B failed told = absurd (let no : ◌≡�
 pub then_stopped : {P T : Type 0} (stopped : Option Device) (settled : Result (Unit {0}) SwitchFault) (result : Result T SwitchFault) (old mid new : Engine P) → old.stopped ≡ stopped → IfSome stopped (λ by. (settled ≡ Ok tt) × (mid ≡ old))
     → IfSome mid.stopped (λ by. (result ≡ Err (Stopped by)) × (new ≡ mid)) → IfSome stopped (λ by. (result ≡ Err (Stopped by)) × (new ≡ old))
 then_stopped None settled result old mid new is first told = tt
-then_stopped {P} (Some by) settled result old mid new is first told =
-    let S : Option Device → Type 0 = λ s. IfSome s (λ b. (result ≡ Err (Stopped b)) × (new ≡ mid)) in
-    let t = subst S (ap (λ (e : Engine P). e.stopped) first.1 ∙ is) told in
-    (t.0, t.1 ∙ first.1)
+then_stopped {P} (Some by) settled result old mid new is first told = grind (arith, common_steps)
 
 -- where nothing was gathered, settling doesn't fail
 pub nothing_failed : {A : Type 0} (settled : Result (Unit {0}) SwitchFault) (fault : SwitchFault) {B : Type 0} → settled ≡ Err fault → (settled ≡ Ok tt) × A → B

@@ -10,6 +10,7 @@ use Rattle.gts_journal.proofs.LawLemmas.{both_left}
 use Rattle.gts_recovery.proofs.LawLemmas.{closed_there, still_stands}
 use Rattle.gts_engine.proofs.GoingLemmas.{opened_same, images}
 use Rattle.gts_engine.proofs.ReopenLemmas.{opens_by}
+use Rattle.std.proofs.lemmas.Grind.{common_steps}
 
 -- ---- an engine that goes on
 
@@ -168,10 +169,7 @@ no_room_compacted d s size wanted at limit s_is w_is at_is l_is past low =
 
 pub has_room_compacted : (d : Directory) (s : State) (size wanted : ℕ) → size ≡ min (length (checkpoint_text (need d s))) (2 ^ 64 - 1)
     → wanted ≡ min (size + (seal_size written + draw_size written * due s)) (2 ^ 64 - 1) → min (wanted + 42) (2 ^ 64 - 1) ≤ d.limit → d.limit < 2 ^ 63 → full_compacted d s ≡ None
-has_room_compacted d s size wanted s_is w_is within low =
-    let real : ℕ = length (checkpoint_text (need d s)) + seal_size written + draw_size written * due s in
-    let fits : 42 + real ≤ d.limit = omega (arith, s_is, w_is, within, low) in
-    ap (λ (b : Bool). cond b (Some (Full 42 real d.limit)) None) (le-ltb d.limit (42 + real) fits)
+has_room_compacted d s size wanted s_is w_is within low = grind (arith, common_steps, le-ltb)
 
 -- where there is room, the size is the very one, and small
 module _ (d : Directory) (s : State) (n : Need) (size : ℕ) (is : n ≡ need d s) (size_is : size ≡ min (length (checkpoint_text n)) (2 ^ 64 - 1)) (free : full_compacted d s ≡ None) (low : d.limit < 2 ^ 63) where

@@ -1,6 +1,6 @@
 -- What an engine stands for whose journal was compacted, or was to be.
-use Rattle.std.proofs.Common.{◌≡◌, true, ℕ, ◌+◌, List, [], ◌∷◌, ◌++◌, length, drop, Option, Some, None, Ok, Err, refl, sym, ap, subst, ◌∙◌, arith, false}
-use Rattle.gts_engine.specs.Cited.{AllByRecursion, Core, Device, Directory, Disk, DiskFault, EachSince, Engine, Entry, Files, HasFailed, HasSaid, Holds, IsAnchor, IsCompaction, IsImage, IsLeft, IsReading, Keeps, LeavesFront, Need, Needs, NoMemory, OpensAsBefore, OpensToReading, Origin, Outside, SaidSince, SameNeed, SayMode, Shown, StationMeanings, StaysAt, begun, bytes_of_entries, compacted_after, compacted_bytes, history_of, is_sound, last_or, need, said_by, shown, state_at, told, used_at, written}
+use Rattle.std.proofs.Common.{◌≡◌, true, ℕ, List, [], ◌∷◌, ◌++◌, length, Option, Some, None, Ok, Err, refl, sym, ap, subst, ◌∙◌, arith, false}
+use Rattle.gts_engine.specs.Cited.{AllByRecursion, Core, Device, Directory, Disk, DiskFault, EachSince, Engine, Entry, Files, HasFailed, HasSaid, Holds, IsAnchor, IsCompaction, IsImage, IsLeft, IsReading, Keeps, LeavesFront, Need, Needs, NoMemory, OpensAsBefore, OpensToReading, Origin, Outside, SaidSince, SameNeed, SayMode, Shown, StationMeanings, StaysAt, begun, compacted_after, compacted_bytes, history_of, is_sound, last_or, need, said_by, shown, state_at, told, used_at, written}
 use Rattle.std.proofs.lemmas.List.{append-nil, take_all, drop_all}
 use Rattle.gts_traits.proofs.LawLemmas.{weaker, joined}
 use Rattle.gts_event.proofs.LawLemmas.{need-begun, ordered-begun}
@@ -8,6 +8,7 @@ use Rattle.gts_opening.proofs.LawLemmas.{caused-compaction}
 use Rattle.gts_engine.proofs.EntryLemmas.{used_since, read_itself}
 use Rattle.gts_engine.proofs.TurnLemmas.{settle_keeps}
 use Rattle.gts_engine.proofs.LeavingLemmas.{at_end, whole}
+use Rattle.std.proofs.lemmas.Grind.{common_steps}
 
 last_end : (first : Option ℕ) (cs : List ℕ) (k : ℕ) → last_or first (cs ++ k ∷ []) ≡ Some k
 last_end first [] k = refl
@@ -15,12 +16,7 @@ last_end first (c ∷ cs) k = last_end (Some c) cs k
 
 -- the bytes that a compaction leaves in use
 pub used_compacted : (o : Origin) (h : List Entry) → used_at (compacted_after o h) h ≡ compacted_bytes written (need o.directory (state_at o h))
-used_compacted o h =
-    let d : Directory = o.directory in
-    ap (used_since d (history_of o h)) (last_end None o.compactions (length h))
-    ∙ ap (λ (es : List Entry). let n : Need = need d (state_at o es) in compacted_bytes written n + bytes_of_entries d (begun n) (drop (length h) h)) (take_all (length h) h (omega arith))
-    ∙ ap (λ (es : List Entry). compacted_bytes written (need d (state_at o h)) + bytes_of_entries d (begun (need d (state_at o h))) es) (drop_all (length h) h (omega arith))
-    ∙ (let e : compacted_bytes written (need d (state_at o h)) + 0 ≡ compacted_bytes written (need d (state_at o h)) = omega arith in e)
+used_compacted o h = grind (arith, common_steps, used_since, last_end, take_all, drop_all)
 
 -- what doesn't depend on the compactions
 anchor_on : (o : Origin) (g h : List Entry) (k : ℕ) → IsAnchor o h k → IsAnchor (compacted_after o g) h k
@@ -31,8 +27,7 @@ anchors_on o g h [] all = tt
 anchors_on o g h (c ∷ cs) all = (anchor_on o g h c all.0, anchors_on o g h cs all.1)
 
 front_on : (mode : SayMode) (o : Origin) (g h : List Entry) (files : Files) (outside : Outside) → LeavesFront mode o h files outside → LeavesFront mode (compacted_after o g) h files outside
-front_on mode o g h files outside left =
-    record { read = left.read; reading = left.reading; n = left.n; within = left.within; opened = left.opened; rest = left.rest; heard_before = left.heard_before }
+front_on mode o g h files outside left = grind (arith, common_steps)
 
 all_and_one : (P : ℕ → Type 0) (cs : List ℕ) (k : ℕ) → AllByRecursion P cs → P k → AllByRecursion P (cs ++ k ∷ [])
 all_and_one P [] k all one = (one, tt)

@@ -1,10 +1,11 @@
 -- One event more is gathered: what an engine keeps then, and what a call leaves.
-use Rattle.std.proofs.Common.{◌≡◌, ◌⊎◌, ◌+◌, ◌≤◌, true, false, inl, inr, ℕ, Bool, List, [], ◌∷◌, ◌++◌, length, Option, None, Result, Ok, Err, refl, sym, ap, subst, ◌∙◌, arith}
+use Rattle.std.proofs.Common.{◌≡◌, ◌⊎◌, ◌+◌, ◌≤◌, true, false, inl, inr, ℕ, List, [], ◌∷◌, ◌++◌, length, Option, None, Result, Ok, Err, refl, sym, ap, subst, ◌∙◌, arith}
 use Rattle.gts_engine.specs.Cited.{AfterCall, AfterSettling, Alone, AreGathered, AtOnce, Behind, Device, Directory, DiskFault, Done, Engine, EngineParts, Enters, Entry, Event, Full, Gathers, GathersOne, HasFailed, HasFewDraws, Holds, IsOneMore, Keeps, Leaving, MOST_TOGETHER, MayHaveSettled, NoMemory, Origin, Outcome, Outside, Record, SayFault, SayMode, Shown, Spent, Standing, State, StationMeanings, Stopped, SwitchFault, after, after_all, all_done, by_station, draws_among, draws_in, engine_of, event_record, gathered_after, meanings_of, outcome, pieces, record_bytes, shown, shows, slice_index_or, spoken, state_at, state_behind, used_at, used_behind}
 use Rattle.std.proofs.lemmas.List.{append-nil}
 use Rattle.gts_event.proofs.LawLemmas.{after_all-append}
 use Rattle.gts_engine.proofs.SettleLemmas.{done_append}
 use Rattle.gts_engine.proofs.BehindLemmas.{length_pieces}
+use Rattle.std.proofs.lemmas.Grind.{common_steps}
 
 -- ---- one event more
 
@@ -21,8 +22,7 @@ draws_append d s c [] e = omega arith
 draws_append d s c (x ∷ es) e = omega (arith, draws_append d (after d s x) c es e)
 
 behind_append : (o : Origin) (h : List Entry) (es : List Event) (e : Event) → state_behind o h (es ++ e ∷ []) ≡ after o.directory (state_behind o h es) e
-behind_append o h es e =
-    ap (after_all o.directory (state_at o h)) (done_append es (e ∷ [])) ∙ after_all-append o.directory (state_at o h) (all_done es) (Done e ∷ [])
+behind_append o h es e = grind (arith, common_steps, done_append, after_all-append)
 
 -- records are gathered where they were, or where the event has one
 some_record : (rs : List Record) → gathered_after false rs ≡ true → rs ≡ [] → ⊥
@@ -32,8 +32,7 @@ some_record (r ∷ rs) e none = cc none
 -- what is gathered with an event more
 gathered_one : (old new : Shown) (d : Directory) (s : State) (es : List Event) (e : Event) → AreGathered old d s es → new.gathered ≡ gathered_after old.gathered (event_record d (after_all d s (all_done es)) e) → new.gathered ≡ true → new.stopped ≡ None
     → AreGathered new d s (es ++ e ∷ [])
-gathered_one old new d s [] e are after is going =
-    (is, going, some_record (event_record d s e) (ap (λ (b : Bool). gathered_after b (event_record d s e)) (sym are) ∙ sym after ∙ is))
+gathered_one old new d s [] e are after is going = grind (arith, common_steps, some_record)
 gathered_one old new d s (x ∷ es) e are after is going = (is, going, are.2)
 
 module _ (observed : Type 0) (mode : SayMode) (o : Origin) (h : List Entry) (events : List Event) (event : Event) (old mid : Shown) (kept : Gathers observed mode o h events old) (going : old.stopped ≡ None)
@@ -89,8 +88,7 @@ one_behind entries events event front more (inr settled) = Alone settled.0 (ap (
 
 -- the history so far is one, settled or not
 all_so_far : (entries : List Entry) (events : List Event) (front : List Entry) (more : List Event) → MayBeSettled entries events front more → more ≡ [] → front ≡ entries ++ all_done events
-all_so_far entries events front more (inl same) none =
-    same.0 ∙ sym (append-nil entries) ∙ ap (λ (es : List Event). entries ++ all_done es) (sym none ∙ same.1)
+all_so_far entries events front more (inl same) none = grind (arith, common_steps, append-nil)
 all_so_far entries events front more (inr settled) none = settled.0
 
 module _ {P : Type 0} (station : StationMeanings P) (mode : SayMode) (o : Origin) (entries : List Entry) (events : List Event) (event : Event) where
@@ -135,10 +133,7 @@ module _ {P : Type 0} (station : StationMeanings P) (mode : SayMode) (o : Origin
   fails_by : (fault : SwitchFault) (e : Engine P) → AfterSettling meanings o entries events (Err fault) e → AfterCall meanings o entries events event (Err fault) e
   fails_by DiskFault e after = after
   fails_by SayFault e after = inl after
-  fails_by (Full at wanted limit) e after = absurd after
-  fails_by (Stopped by) e after = absurd after
-  fails_by Spent e after = absurd after
-  fails_by NoMemory e after = absurd after
+  fails_by _ e after = absurd after
 
   pub fails_after : (result : Result (Unit {0}) SwitchFault) (fault : SwitchFault) (old mid : EngineParts P) → result ≡ Err fault → MayHaveSettled station result old mid
       → Gathers station.observed mode o entries events (shows station.calls old) → AfterCall meanings o entries events event (Err fault) (engine_of mid)

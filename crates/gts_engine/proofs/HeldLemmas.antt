@@ -1,8 +1,9 @@
 -- What is held, piece by piece.
-use Rattle.std.proofs.Common.{◌≡◌, ◌≤◌, ◌+◌, ℕ, zero, suc, List, [], ◌∷◌, ◌++◌, length, take, drop, Some, sym, ap, ◌∙◌, arith, length-append, length-drop, append_assoc, slice_get}
+use Rattle.std.proofs.Common.{◌≡◌, ◌≤◌, ◌+◌, ℕ, zero, suc, List, [], ◌∷◌, ◌++◌, length, take, drop, Some, sym, ap, ◌∙◌, arith, length-drop, slice_get}
 use Rattle.gts_engine.specs.Cited.{Outside, Saying, on, pieces_of, sizes_of, slice_index_or}
 use Rattle.std.proofs.lemmas.List.{take-append-le, drop-append-le, take_all, take_at, length-take-le, take-take, drop-take, drop-drop, nil_from_length}
 use Rattle.std.proofs.lemmas.List.Sums.{sum_by-cons, sum_by-take-le}
+use Rattle.std.proofs.lemmas.Grind.{common_steps}
 
 -- the size of one, and those of the others
 sizes_cons : (s : Saying) (each : List Saying) → sizes_of (s ∷ each) ≡ s.size + sizes_of each
@@ -10,9 +11,7 @@ sizes_cons s each = sum_by-cons (λ (x : Saying). x.size) s each
 
 -- one more is held behind the others
 pub pieces_hold : (each : List Saying) (bytes : List ℕ) (s : Saying) (new : List ℕ) → sizes_of each ≡ length bytes → s.size ≡ length new → pieces_of (each ++ s ∷ []) (bytes ++ new) ≡ pieces_of each bytes ++ on s.channel new ∷ []
-pieces_hold [] bytes s new sizes size =
-    let none : bytes ≡ [] = nil_from_length bytes (sym sizes) in
-    ap (λ (l : List ℕ). on s.channel (take s.size (l ++ new)) ∷ []) none ∙ ap (λ (l : List ℕ). on s.channel l ∷ []) (take_all s.size new (omega (arith, size)))
+pieces_hold [] bytes s new sizes size = grind (arith, common_steps, nil_from_length, take_all)
 pieces_hold (t ∷ each) bytes s new sizes size =
     let within : t.size ≤ length bytes = omega (arith, sizes, sizes_cons t each) in
     let behind : sizes_of each ≡ length (drop t.size bytes) = omega (arith, sizes, sizes_cons t each, length-drop t.size bytes) in
@@ -39,13 +38,7 @@ sizes_within each i = sum_by-take-le (λ (x : Saying). x.size) each i
 -- bytes that are put behind the first ones, in the place of as many
 pub put_behind : (before new : List ℕ) (size count : ℕ) → count ≡ length new → size + length new ≤ length before
     → (length (take size before ++ (new ++ drop count (drop size before))) ≡ length before) × (take (size + length new) (take size before ++ (new ++ drop count (drop size before))) ≡ take size before ++ new)
-put_behind before new size count is fits =
-    let after : List ℕ = drop count (drop size before) in
-    let long : length (take size before) ≡ size = length-take-le size before (omega (arith, fits)) in (
-      omega (arith, long, is, fits, length-append (take size before) (new ++ after), length-append new after, length-drop count (drop size before), length-drop size before),
-      ap (λ (l : List ℕ). take (size + length new) l) (sym (append_assoc (take size before) new after))
-          ∙ take_at (take size before ++ new) after (size + length new) (omega (arith, long, length-append (take size before) new)),
-    )
+put_behind before new size count is fits = grind (arith, common_steps, length-take-le, take_at)
 
 -- bytes within the first ones
 pub within_front : (bytes : List ℕ) (size from count : ℕ) → from + count ≤ size → take count (drop from (take size bytes)) ≡ take count (drop from bytes)

@@ -1,6 +1,6 @@
 -- A call that changes nothing, behind what was settled.
 use Rattle.std.proofs.Common.{◌≡◌, inr, ℕ, List, [], ◌∷◌, ◌++◌, true, false, Option, None, Result, Ok, Err, refl, sym, ap, subst, ◌∙◌}
-use Rattle.gts_engine.specs.Cited.{AfterCall, AnswersIn, Core, Device, Directory, DiskFault, Engine, EngineParts, Entry, Event, Full, Gathers, GivesOrMemory, HasCallCause, HasOnlySettled, HasSettled, HasStationCause, Holds, Idle, IsAccepted, IsGathering, IsRoomFault, IsSettling, IsSound, IsUnchanged, Keeps, LeavesCall, NoMemory, Origin, Outcome, SayFault, SayMode, Shown, Spent, Standing, State, StationMeanings, Stopped, SwitchFault, all_done, engine_of, full, meanings_of, outcome, shown, shows, state_at, state_behind, stopped_after, used_at}
+use Rattle.gts_engine.specs.Cited.{AfterCall, AnswersIn, Core, Device, Directory, DiskFault, Engine, EngineParts, Entry, Event, Full, Gathers, GivesOrMemory, HasCallCause, HasOnlySettled, HasSettled, HasStationCause, Holds, Idle, IsAccepted, IsGathering, IsRoomFault, IsSettling, IsSound, IsUnchanged, Keeps, LeavesCall, NoMemory, Origin, Outcome, SayFault, SayMode, Shown, Spent, Standing, State, StationMeanings, Stopped, SwitchFault, all_done, engine_of, full, meanings_of, outcome, shown, shows, state_at, stopped_after, used_at}
 use Rattle.gts_core.specs.Core.{Keeps as KeepsCore}
 use Rattle.std.proofs.lemmas.Result.{IfOk-weaker}
 use Rattle.gts_engine.proofs.SettlingLemmas.{parts_settle}
@@ -10,24 +10,12 @@ use Rattle.gts_engine.proofs.AnswerLemmas.{EachHeld, at_state}
 use Rattle.gts_engine.proofs.StepLemmas.{part_directory, part_station, part_stopped, part_used, part_gathered}
 use Rattle.gts_engine.proofs.AnsweringLemmas.{NoDevice, answers_uncleared, no_device_done}
 use Rattle.gts_engine.proofs.HearingLemmas.{room_stops}
+use Rattle.std.proofs.lemmas.Grind.{common_steps}
+use Rattle.std.proofs.Common.{arith}
 
 -- a core that keeps what another holds
 pub gathers_kept : (observed : Type 0) (mode : SayMode) (o : Origin) (h : List Entry) (events : List Event) (e : Shown) (core : Core) → KeepsCore e.core core → Gathers observed mode o h events e → Gathers observed mode o h events (record e { core = core })
-gathers_kept observed mode o h events e core keeps kept = record {
-  directory = kept.directory;
-  core = λ going. keeps o.directory (state_behind o h events) (kept.core going);
-  used = kept.used;
-  gathered = kept.gathered;
-  held = kept.held;
-  drawn = kept.drawn;
-  few = kept.few;
-  most = kept.most;
-  failed = kept.failed;
-  once = kept.once;
-  anchors = kept.anchors;
-  caused = kept.caused;
-  leaves = kept.leaves;
-}
+gathers_kept observed mode o h events e core keeps kept = grind (arith, common_steps)
 
 pub kept_sound : {P : Type 0} (station : StationMeanings P) (old : EngineParts P) → IsSound station old → (core : Core) → KeepsCore old.core core → IsSound station (record old { core = core })
 kept_sound station old sound core keeps = record {
@@ -57,9 +45,7 @@ kept_sound station old sound core keeps = record {
 -- parts whose core keeps what it holds stand for what they stood for
 pub prepared_keeps : {P : Type 0} (station : StationMeanings P) (mode : SayMode) (old mid : EngineParts P) → mid ≡ record old { core = mid.core } → KeepsCore old.core mid.core → (o : Origin) (entries : List Entry) (events : List Event)
     → Gathers station.observed mode o entries events (shows station.calls old) → Gathers station.observed mode o entries events (shows station.calls mid)
-prepared_keeps station mode old mid rest keeps o entries events kept =
-    let S : Shown → Type 0 = λ e. Gathers station.observed mode o entries events e in
-    subst S (sym (ap (shows station.calls) rest)) (gathers_kept station.observed mode o entries events (shows station.calls old) mid.core keeps kept)
+prepared_keeps station mode old mid rest keeps o entries events kept = grind (arith, common_steps, gathers_kept)
 
 module _ {P : Type 0} (station : StationMeanings P) (mode : SayMode) (event : Event) where
   abbrev meanings : Standing Origin (Engine P)
@@ -70,18 +56,12 @@ module _ {P : Type 0} (station : StationMeanings P) (mode : SayMode) (event : Ev
       → IsAccepted (outcome o.directory (state_at o h) event) → Keeps station.observed mode o (h ++ Idle event fault ∷ []) (shown station.calls e)
   idle_behind o h (Full at wanted limit) e is kept gives accepted = idle mode o h event station.observed (Full at wanted limit) (shown station.calls e) gives kept
   idle_behind o h NoMemory e is kept gives accepted = idle mode o h event station.observed NoMemory (shown station.calls e) accepted kept
-  idle_behind o h DiskFault e is kept gives accepted = absurd is
-  idle_behind o h SayFault e is kept gives accepted = absurd is
-  idle_behind o h (Stopped by) e is kept gives accepted = absurd is
-  idle_behind o h Spent e is kept gives accepted = absurd is
+  idle_behind o h _ e is kept gives accepted = absurd is
 
   as_answered : (o : Origin) (entries : List Entry) (events : List Event) (fault : SwitchFault) (e : Engine P) → IsRoomFault fault → Keeps station.observed mode o ((entries ++ all_done events) ++ Idle event fault ∷ []) (shown station.calls e) → AfterCall meanings o entries events event (Err fault) e
   as_answered o entries events (Full at wanted limit) e is kept = kept
   as_answered o entries events NoMemory e is kept = kept
-  as_answered o entries events DiskFault e is kept = absurd is
-  as_answered o entries events SayFault e is kept = absurd is
-  as_answered o entries events (Stopped by) e is kept = absurd is
-  as_answered o entries events Spent e is kept = absurd is
+  as_answered o entries events _ e is kept = absurd is
 
   module _ (old mid new : EngineParts P) (rest : mid ≡ record old { core = mid.core }) (keeps : KeepsCore old.core mid.core) (going : old.stopped ≡ None) (settles : HasSettled station (Ok tt) mid new) (fault : SwitchFault) (is : IsRoomFault fault)
       (gives : EachHeld station mode event (engine_of old) (λ d s. GivesOrMemory (Err fault) (full d s (engine_of old).used event))) (accepted : EachHeld station mode event (engine_of old) (λ d s. IsAccepted (outcome d s event))) where
@@ -124,26 +104,9 @@ only_settled station old mid new rest keeps settled settles ok = record {
 
 -- a fault that tells of no device has no cause there
 pub no_device : {T : Type 0} (fault : SwitchFault) (r : Result T SwitchFault) (a b x y : ℕ) → IsRoomFault fault → NoDevice r → HasCallCause r a b x y → HasCallCause (let e : Result Outcome SwitchFault = Err fault in e) a b x y
-no_device (Full at wanted limit) r a b x y is none c = record {
-  disk_later = c.disk_later;
-  disk_failed = λ e. absurd (cc e);
-  disk_still = λ no. c.disk_still none.0;
-  say_later = c.say_later;
-  say_failed = λ e. absurd (cc e);
-  say_still = λ no. c.say_still none.1;
-}
-no_device NoMemory r a b x y is none c = record {
-  disk_later = c.disk_later;
-  disk_failed = λ e. absurd (cc e);
-  disk_still = λ no. c.disk_still none.0;
-  say_later = c.say_later;
-  say_failed = λ e. absurd (cc e);
-  say_still = λ no. c.say_still none.1;
-}
-no_device DiskFault r a b x y is none c = absurd is
-no_device SayFault r a b x y is none c = absurd is
-no_device (Stopped by) r a b x y is none c = absurd is
-no_device Spent r a b x y is none c = absurd is
+no_device (Full at wanted limit) r a b x y is none c = grind (arith, common_steps)
+no_device NoMemory r a b x y is none c = grind (arith, common_steps)
+no_device _ r a b x y is none c = absurd is
 
 module _ {P : Type 0} (station : StationMeanings P) (mode : SayMode) (event : Event) (old mid new : EngineParts P) (rest : mid ≡ record old { core = mid.core }) (keeps : KeepsCore old.core mid.core) where
   -- what is answered behind it is answered

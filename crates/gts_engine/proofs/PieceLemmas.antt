@@ -5,6 +5,7 @@ use Rattle.std.proofs.lemmas.List.{append-nil}
 use Rattle.gts_traits.proofs.LawLemmas.{started, weaker, said_is, joined as one_by_one, told as say_told}
 use Rattle.gts_journal.proofs.LawLemmas.{images_open, say_stands_for}
 use Rattle.gts_engine.proofs.TurnLemmas.{says_front}
+use Rattle.std.proofs.lemmas.Grind.{common_steps}
 
 -- ---- pieces
 
@@ -12,15 +13,13 @@ use Rattle.gts_engine.proofs.TurnLemmas.{says_front}
 pub joined_more : (ps : List Outside) (i : ℕ) → i < length ps → joined (take (suc i) ps) ≡ joined (take i ps) ++ slice_index_or ps i []
 joined_more [] i within = absurd (omega (arith, within))
 joined_more (p ∷ ps) zero within = append-nil p
-joined_more (p ∷ ps) (suc i) within =
-    ap (λ (l : Outside). p ++ l) (joined_more ps i (omega (arith, within))) ∙ sym (append_assoc p (joined (take i ps)) (slice_index_or ps i []))
+joined_more (p ∷ ps) (suc i) within = grind (arith, common_steps, joined_more ps i (omega (arith, within)))
 
 -- and what stands behind it
 pub joined_split : (ps : List Outside) (i : ℕ) → i < length ps → joined ps ≡ joined (take i ps) ++ (slice_index_or ps i [] ++ joined (drop (suc i) ps))
 joined_split [] i within = absurd (omega (arith, within))
 joined_split (p ∷ ps) zero within = refl
-joined_split (p ∷ ps) (suc i) within =
-    ap (λ (l : Outside). p ++ l) (joined_split ps i (omega (arith, within))) ∙ sym (append_assoc p (joined (take i ps)) (slice_index_or ps i [] ++ joined (drop (suc i) ps)))
+joined_split (p ∷ ps) (suc i) within = grind (arith, common_steps, joined_split ps i (omega (arith, within)))
 
 empty_parts : (a b : Outside) → a ++ b ≡ [] → (a ≡ []) × (b ≡ [])
 empty_parts [] b e = (refl, e)
@@ -76,15 +75,7 @@ module _ (d : Directory) (ps : List Outside) (old mid : List Call) (j : InHand) 
 -- all of it
 pub piece_said : {T E : Type 0} (ps : List Outside) (old mid new : List Call) (i : ℕ) → i < length ps → SaidSince old mid (joined (take i ps)) → (result : Result T E) (x : T) → result ≡ Ok x
     → TriesPiece (slice_index_or ps i []) result mid new → SaidSince old new (joined (take (suc i) ps))
-piece_said {T} {E} ps old mid new i within so_far result x ok tries =
-    piece_new ∙ ap (λ (l : Outside). l ++ slice_index_or ps i []) so_far ∙ append_assoc (said_by old) (joined (take i ps)) (slice_index_or ps i [])
-    ∙ ap (λ (l : Outside). said_by old ++ l) (sym (joined_more ps i within))
-  where
-    piece_new : SaidSince mid new (slice_index_or ps i [])
-    piece_new = ⊎_elim
-        (λ t. let R : Result T E → Type 0 = λ r. Tries (Says tries.0 tries.1) r mid new in
-        ap said_by (subst R ok t) ∙ ap (λ (l : Outside). said_by mid ++ l) (sym tries.2))
-        (λ same. ap said_by same.1 ∙ sym (append-nil (said_by mid)) ∙ ap (λ (l : Outside). said_by mid ++ l) (ap (on tries.0) (sym same.0) ∙ sym tries.2)) tries.3
+piece_said {T} {E} ps old mid new i within so_far result x ok tries = grind (arith, common_steps, joined_more, append-nil)
 
 -- nothing was said yet
 pub nothing_yet : (d : Directory) (ps : List Outside) (calls : List Call) (j : InHand) (s : State) → StandsFor d s calls j → EachSince calls calls (OpensAlong d s (joined ps))

@@ -61,18 +61,12 @@ module _ {P : Type 0} (station : StationMeanings P) (p : EngineParts P) (going :
       idle = λ by is. none_put;
     }
     sound_put NoMemory may stops same = subst (λ (x : EngineParts P). IsSound station x) (sym (same refl)) sound_p
-    sound_put SayFault may stops same = absurd may
-    sound_put (Full at wanted limit) may stops same = absurd may
-    sound_put (Stopped by) may stops same = absurd may
-    sound_put Spent may stops same = absurd may
+    sound_put _ may stops same = absurd may
 
     pub failed_put : (e : SwitchFault) → IsWriteFault e → q.stopped ≡ stopped_after p.stopped (let r : Result (Unit {0}) SwitchFault = Err e in r) → IsCompaction station (Err e) (engine_of p) (engine_of q)
     failed_put DiskFault may stops = left_put stops
     failed_put NoMemory may stops = memory_so station (engine_of p) (engine_of q) directory_put
-    failed_put SayFault may stops = absurd may
-    failed_put (Full at wanted limit) may stops = absurd may
-    failed_put (Stopped by) may stops = absurd may
-    failed_put Spent may stops = absurd may
+    failed_put _ may stops = absurd may
 
     module _ (wrote : station.observed → HasWritten mark n file (station.calls q.station)) (last : List ℕ) (last_is : last ≡ need_seal mark n) where
       seal_is : last ≡ need_seal p.directory.mark n

@@ -22,13 +22,7 @@ module _ (d : Directory) (s : State) (c : ℕ) (kind : Kind) (message : List ℕ
   -- it is full for accepted bulletins alone
   accepted_of : (at : ℕ) (o : Outcome) (fault : SwitchFault) → room d s at event o ≡ Some fault → IsAccepted o
   accepted_of at (Accepted p n) fault is = tt
-  accepted_of at (Duplicate position) fault is = absurd (let e : None ≡ Some fault = is in cc e)
-  accepted_of at (Asked n m) fault is = absurd (let e : None ≡ Some fault = is in cc e)
-  accepted_of at (Refused refusal) fault is = absurd (let e : None ≡ Some fault = is in cc e)
-  accepted_of at (LineLost field) fault is = absurd (let e : None ≡ Some fault = is in cc e)
-  accepted_of at (Resend index) fault is = absurd (let e : None ≡ Some fault = is in cc e)
-  accepted_of at (Draw index) fault is = absurd (let e : None ≡ Some fault = is in cc e)
-  accepted_of at Nothing fault is = absurd (let e : None ≡ Some fault = is in cc e)
+  accepted_of at _ fault is = absurd (let e : None ≡ Some fault = is in cc e)
 
   pub full_accepted : (at : ℕ) (fault : SwitchFault) → full d s at event ≡ Some fault → IsAccepted (outcome d s event)
   full_accepted at fault is = accepted_of at (outcome d s event) fault is
@@ -48,13 +42,7 @@ module _ (d : Directory) (s : State) (c : ℕ) (kind : Kind) (message : List ℕ
   -- from other bytes on there is room for them, or not
   fits_of : (at from used bytes limit : ℕ) (o : Outcome) → room d s at event o ≡ Some (Full used bytes limit) → (s.count ≡ most_accepted → ⊥) → from + bytes ≤ d.limit → room d s from event o ≡ None
   fits_of at from used bytes limit (Accepted p n) is few fits = has_room d s from c kind message p n few (let e = bytes_are at used bytes limit p n few is in omega (arith, fits, e))
-  fits_of at from used bytes limit (Duplicate position) is few fits = refl
-  fits_of at from used bytes limit (Asked n m) is few fits = refl
-  fits_of at from used bytes limit (Refused refusal) is few fits = refl
-  fits_of at from used bytes limit (LineLost field) is few fits = refl
-  fits_of at from used bytes limit (Resend index) is few fits = refl
-  fits_of at from used bytes limit (Draw index) is few fits = refl
-  fits_of at from used bytes limit Nothing is few fits = refl
+  fits_of at from used bytes limit _ is few fits = refl
 
   over_of : (at from used bytes limit : ℕ) (o : Outcome) → room d s at event o ≡ Some (Full used bytes limit) → (s.count ≡ most_accepted) ⊎ (d.limit < from + bytes) → IsSome (room d s from event o)
   over_of at from used bytes limit (Accepted p n) is (inl last) = subst IsSome (sym (last_room d s from c kind message p n last)) refl
@@ -158,11 +146,7 @@ full_is (Err (Full used need limit)) bytes is =
     let there : Some need ≡ Some bytes = is in
     let same : need ≡ bytes = cc there in
     (used, limit, ap (λ (n : ℕ). Err (Full used n limit)) same)
-full_is (Err DiskFault) bytes is = absurd (let e : None ≡ Some bytes = is in cc e)
-full_is (Err SayFault) bytes is = absurd (let e : None ≡ Some bytes = is in cc e)
-full_is (Err (Stopped by)) bytes is = absurd (let e : None ≡ Some bytes = is in cc e)
-full_is (Err Spent) bytes is = absurd (let e : None ≡ Some bytes = is in cc e)
-full_is (Err NoMemory) bytes is = absurd (let e : None ≡ Some bytes = is in cc e)
+full_is _ bytes is = absurd (let e : None ≡ Some bytes = is in cc e)
 
 -- nothing changed then
 pub idle_full : (result : Result Outcome SwitchFault) (bytes : ℕ) → bytes_wanted result ≡ Some bytes → IsIdleAnswer result
@@ -200,10 +184,7 @@ module _ {P : Type 0} (station : StationMeanings P) (mode : SayMode) (c : ℕ) (
   other_cause F G h o DiskFault other cause = cause
   other_cause F G h o SayFault other cause = cause
   other_cause F G h o (Full used need limit) other cause = absurd (other used need limit refl)
-  other_cause F G h o (Stopped Disk) other cause = cause
-  other_cause F G h o (Stopped Say) other cause = cause
-  other_cause F G h o Spent other cause = cause
-  other_cause F G h o NoMemory other cause = cause
+  other_cause F G h o _ other cause = cause
 
   module _ (o : Origin) (h : List Entry) where
     abbrev there : State

@@ -1,20 +1,19 @@
 -- What was gathered is brought into the journal, and what was held is said: what an engine keeps then.
 use Rattle.std.proofs.Common.{◌≡◌, ◌<◌, true, false, ⊎_elim, ℕ, zero, suc, List, [], ◌∷◌, ◌++◌, length, take, Option, Some, None, Ok, refl, sym, ap, subst, ◌∙◌, arith, append_assoc}
-use Rattle.gts_engine.specs.Cited.{BeginsWithRecord, Core, Device, Directory, Disk, Done, Doubt, EachSince, Entry, Event, Files, Gathers, HasDoubt, HasFailed, HasSaid, Holds, Idle, IsFront, IsImage, IsReading, Keeps, LeavesFront, OpensBetween, Origin, Outside, Restarted, SaidSince, Say, SayMode, Shown, State, StopsOnce, Unsaid, after, after_all, all_done, all_unsaid, by_station, joined, list_all, may_follow, need, opens, pieces, restarted, said, said_by, slice_index_or, spoken, state_at, state_behind, stops, told}
+use Rattle.gts_engine.specs.Cited.{BeginsWithRecord, Core, Device, Directory, Disk, Done, Doubt, EachSince, Entry, Event, Files, Gathers, HasDoubt, HasFailed, HasSaid, Holds, Idle, IsFront, IsImage, IsReading, Keeps, LeavesFront, OpensBetween, Origin, Outside, Restarted, SaidSince, Say, SayMode, Shown, State, StopsOnce, Unsaid, after, after_all, all_done, all_unsaid, by_station, joined, may_follow, need, opens, pieces, restarted, said, said_by, slice_index_or, spoken, state_at, state_behind, stops, told}
 use Rattle.std.proofs.lemmas.List.{append-nil}
 use Rattle.gts_event.proofs.LawLemmas.{after_all-append, said-append}
 use Rattle.gts_engine.proofs.EntryLemmas.{split_last, all_more, nothing_behind, no_doubt, anchors_more, caused_more, told_more, nothing_said, stops_now, stops_never, only_itself, read_itself, read_done, read_not, by_station-append}
 use Rattle.gts_engine.proofs.MarkedLemmas.{state_behind_marked, told_marked, anchors_marked, caused_marked, used_marked, no_doubt_marked, still_going}
 use Rattle.gts_engine.proofs.LeavingLemmas.{at_end, brought}
 use Rattle.gts_engine.proofs.TurnLemmas.{goes_on, quiet, settle_keeps}
+use Rattle.std.proofs.lemmas.Grind.{common_steps}
 
 -- ---- the pieces of what events say
 
 pub pieces_join : (mode : SayMode) (d : Directory) (s : State) (events : List Event) → joined (pieces mode d s events) ≡ by_station mode (said d s (all_done events))
 pieces_join mode d s [] = sym (nothing_said mode)
-pieces_join mode d s (event ∷ events) =
-    ap (λ (l : Outside). by_station mode (spoken d s event) ++ l) (pieces_join mode d (after d s event) events)
-    ∙ sym (by_station-append mode (spoken d s event) (said d (after d s event) (all_done events)))
+pieces_join mode d s (event ∷ events) = grind (arith, common_steps, by_station-append, pieces_join mode d (after d s event) events)
 
 -- the event of a piece, those before it, and those behind it
 pub record CutsAt (mode : SayMode) (d : Directory) (s : State) (events : List Event) (i : ℕ) : Type 0 where
@@ -51,22 +50,15 @@ done_append (x ∷ a) b = ap (λ (l : List Entry). Done x ∷ l) (done_append a 
 unsaid_follows : (front : List Entry) (y : Entry) (z : List Entry) (h : List Entry) (event : Event) → (HasDoubt h → ⊥) → h ≡ front ++ y ∷ z → stops y ≡ true → may_follow y (Unsaid event) ≡ true
 unsaid_follows front (Doubt events) z h event none e stop = absurd (none (front, events, z, e))
 unsaid_follows front (Unsaid other) z h event none e stop = refl
-unsaid_follows front (Done other) z h event none e stop = absurd (cc stop)
-unsaid_follows front (Idle other fault) z h event none e stop = absurd (cc stop)
-unsaid_follows front Restarted z h event none e stop = absurd (cc stop)
+unsaid_follows front _ z h event none e stop = absurd (cc stop)
 
 unsaid_more : (h : List Entry) (event : Event) → (HasDoubt h → ⊥) → StopsOnce h → StopsOnce (h ++ Unsaid event ∷ [])
-unsaid_more h event none once front y back e stop =
-    ⊎_elim (λ last. nothing_behind y back last.1)
-    (λ before. subst (λ (l : List Entry). list_all (may_follow y) l ≡ true) (sym before.2)
-    (all_more (may_follow y) before.0 (Unsaid event) (once front y before.0 before.1 stop) (unsaid_follows front y before.0 h event none before.1 stop)))
-    (split_last h (Unsaid event) front y back e)
+unsaid_more h event none once front y back e stop = grind (arith, common_steps, nothing_behind, all_more, unsaid_follows, split_last)
 
 stops_unsaid : (h : List Entry) (events : List Event) → (HasDoubt h → ⊥) → StopsOnce h → StopsOnce (h ++ all_unsaid events)
 stops_unsaid h [] none once = subst StopsOnce (sym (append-nil h)) once
 stops_unsaid h (event ∷ events) none once =
-    subst StopsOnce (append_assoc h (Unsaid event ∷ []) (all_unsaid events))
-    (stops_unsaid (h ++ Unsaid event ∷ []) events (no_doubt h (Unsaid event) none (λ others e. cc e)) (unsaid_more h event none once))
+    grind (arith, common_steps, no_doubt, unsaid_more, stops_unsaid (h ++ Unsaid event ∷ []) events (no_doubt h (Unsaid event) none (λ others e. cc e)) (unsaid_more h event none once))
 
 -- ---- an engine that goes on
 

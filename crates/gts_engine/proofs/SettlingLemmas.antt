@@ -130,10 +130,7 @@ module _ {P : Type 0} (station : StationMeanings P) (old mid : EngineParts P) (g
   }
   goes_by (Err DiskFault) stopped kind at brought none = absurd (goes_on mid.stopped Disk stopped none)
   goes_by (Err SayFault) stopped kind at brought none = absurd (goes_on mid.stopped Say stopped none)
-  goes_by (Err (Full at_bytes wanted limit)) stopped kind at brought none = absurd kind
-  goes_by (Err (Stopped by)) stopped kind at brought none = absurd kind
-  goes_by (Err Spent) stopped kind at brought none = absurd kind
-  goes_by (Err NoMemory) stopped kind at brought none = absurd kind
+  goes_by _ stopped kind at brought none = absurd kind
 
   pub all_settled : HasFewDraws old.directory none_drawn → HasSettled station result old new
   all_settled few = record {

@@ -1,17 +1,14 @@
 -- What is among numbers.
-use Rattle.std.proofs.Common.{◌≡◌, ◌≢◌, ℕ, zero, suc, ◌<◌, ◌≤◌, Bool, true, false, ◌||◌, ◌==◌, ◌⊎◌, inl, inr, List, [], ◌∷◌, length, get_or, Ok, Err, Result, is_ok, refl, sym, arith}
+use Rattle.std.proofs.Common.{◌≡◌, ◌≢◌, ℕ, zero, suc, ◌<◌, ◌≤◌, true, false, List, [], ◌∷◌, length, get_or, Ok, Err, Result, is_ok, refl, sym, arith}
 use Rattle.std.specs.Result.{MatchResult}
 use Rattle.std.proofs.lemmas.Bool.{eq-eqb, ne_eqb, cases_lt}
 use Rattle.gts_event.specs.State.{has}
+use Rattle.std.proofs.lemmas.Grind.{common_steps}
 
 pub has_at : (xs : List ℕ) (i n : ℕ) → i < length xs → get_or xs i 0 ≡ n → has xs n ≡ true
 has_at [] i n low is = absurd (omega arith)
 has_at (x ∷ xs) zero n low is = rw (eq-eqb x n is) refl
-has_at (x ∷ xs) (suc i) n low is = go (x == n) (has_at xs i n (omega arith) is)
-  where
-    go : (b : Bool) → has xs n ≡ true → (b || has xs n) ≡ true
-    go true there = refl
-    go false there = there
+has_at (x ∷ xs) (suc i) n low is = grind (arith, common_steps, has_at xs i n (omega arith) is)
 
 pub has_not : (xs : List ℕ) (n : ℕ) → ((k : ℕ) → k < length xs → get_or xs k 0 ≢ n) → has xs n ≡ false
 has_not [] n other = refl
@@ -22,8 +19,4 @@ pub has_searched : (xs : List ℕ) (n : ℕ) (r : Result ℕ ℕ)
     → MatchResult r (λ i. (i < length xs) × (get_or xs i 0 ≡ n)) (λ i. (i ≤ length xs) × ((k : ℕ) → k < i → get_or xs k 0 < n) × ((k : ℕ) → i ≤ k → k < length xs → n < get_or xs k 0))
     → is_ok r ≡ has xs n
 has_searched xs n (Ok i) found = sym (has_at xs i n found.0 found.1)
-has_searched xs n (Err i) found = sym (has_not xs n (λ k low. apart k low (cases_lt k i)))
-  where
-    apart : (k : ℕ) → k < length xs → (k < i) ⊎ (i ≤ k) → get_or xs k 0 ≢ n
-    apart k low (inl before) = λ is. let below : get_or xs k 0 < n = found.1 k before in absurd (omega arith)
-    apart k low (inr behind) = λ is. let above : n < get_or xs k 0 = found.2 k behind low in absurd (omega arith)
+has_searched xs n (Err i) found = grind (arith, common_steps, has_not, cases_lt)

@@ -1,11 +1,13 @@
 -- What is known is a duplicate.
-use Rattle.std.proofs.Common.{◌≡◌, ℕ, zero, suc, Bool, true, false, ◌&&◌, nat_eq, cond, List, [], ◌∷◌, ◌++◌, length, reverse, find, Option, Some, None, is_some, Result, Ok, Err, refl, sym, ap, ◌∙◌, slice_get}
-use Rattle.gts_event.specs.Cited.{Accepted, Bulletin, Directory, Duplicate, Entry, HeadingFields, Heard, Kind, Knows, KnowsMessage, Message, MessageField, MessageParts, Outcome, Refused, State, WasRead, after, after_all, after_heard, answer_to, body_of, duplicate, heading_of, heading_text, is_recent, is_same_heading, named, outcome, pointwise, request_at, text_of, verdict}
+use Rattle.std.proofs.Common.{◌≡◌, ℕ, zero, suc, Bool, true, false, cond, List, [], ◌∷◌, ◌++◌, length, reverse, find, Option, Some, None, is_some, Result, Ok, Err, refl, sym, ap, ◌∙◌, slice_get}
+use Rattle.gts_event.specs.Cited.{Accepted, Bulletin, Directory, Duplicate, Entry, HeadingFields, Heard, Kind, Knows, KnowsMessage, Message, MessageField, MessageParts, Outcome, Refused, State, WasRead, after, after_all, after_heard, answer_to, body_of, duplicate, heading_of, is_recent, named, outcome, request_at, text_of, verdict}
 use Rattle.std.proofs.lemmas.Bool.{true≢false, and_from}
 use Rattle.std.proofs.lemmas.List.{append_assoc, reverse-append}
 use Rattle.gts_event.proofs.BulletinLemmas.{was_read, body_at-read, heading-read}
 use Rattle.gts_event.proofs.GrowthLemmas.{history_goes_on}
 use Rattle.gts_frame.proofs.LawLemmas.{same_bytes}
+use Rattle.std.proofs.lemmas.Grind.{common_steps}
+use Rattle.std.proofs.Common.{arith}
 
 -- ---- a bulletin that is there is found
 
@@ -14,10 +16,7 @@ find_there f [] x ys e = ap (λ b. is_some (cond b (Some x) (find f ys))) e
 find_there f (z ∷ zs) x ys e = elim (f z) as (λ b. is_some (cond b (Some z) (find f (zs ++ x ∷ ys))) ≡ true) [ true ↦ refl | false ↦ find_there f zs x ys e ]
 
 turned : (front : List Bulletin) (b : Bulletin) (rest : List Bulletin) → reverse (front ++ b ∷ rest) ≡ reverse rest ++ b ∷ reverse front
-turned front b rest =
-    reverse-append front (b ∷ rest)
-    ∙ ap (λ (bs : List Bulletin). bs ++ reverse front) (reverse-append (b ∷ []) rest)
-    ∙ append_assoc (reverse rest) (b ∷ []) (reverse front)
+turned front b rest = grind (arith, common_steps, reverse-append, append_assoc)
 
 place : (xs : List Bulletin) (i : ℕ) (x : Bulletin) → slice_get xs i ≡ Some x → (front : List Bulletin) × (rest : List Bulletin) × (xs ≡ front ++ x ∷ rest)
 place [] i x e = absurd (cc)
@@ -26,13 +25,7 @@ place (z ∷ zs) (suc i) x e = let p = place zs i x e in (z ∷ p.0, p.1, ap (λ
 
 known_at : (d : Directory) (t : State) (front : List Bulletin) (b : Bulletin) (rest : List Bulletin) (h : HeadingFields) (x : List ℕ) → t.accepted ≡ front ++ b ∷ rest
     → is_recent d t.count b.position ≡ true → heading_of b.body ≡ h → text_of b.body ≡ x → is_some (duplicate d t h x) ≡ true
-known_at d t front b rest h x there near heading text =
-    let f : Bulletin → Bool = λ y. is_recent d t.count y.position && is_same_heading (heading_of y.body) h && pointwise nat_eq (text_of y.body) x in
-    let same : is_same_heading (heading_of b.body) h ≡ true = ap (λ (g : HeadingFields). is_same_heading g h) heading ∙ same_bytes (heading_text h) in
-    let alike : pointwise nat_eq (text_of b.body) x ≡ true = ap (λ (y : List ℕ). pointwise nat_eq y x) text ∙ same_bytes x in
-    let passes : f b ≡ true = and_from (is_recent d t.count b.position && is_same_heading (heading_of b.body) h) (pointwise nat_eq (text_of b.body) x)
-    (and_from (is_recent d t.count b.position) (is_same_heading (heading_of b.body) h) near same) alike in
-    ap (λ (bs : List Bulletin). is_some (find f bs)) (ap reverse there ∙ turned front b rest) ∙ find_there f (reverse rest) b (reverse front) passes
+known_at d t front b rest h x there near heading text = grind (arith, common_steps, same_bytes, and_from, turned, find_there)
 
 -- a bulletin of a state is known in each state that follows
 pub knows : (d : Directory) (s : State) (entries : List Entry) (b : Bulletin) (i : ℕ) → slice_get s.accepted i ≡ Some b → Knows d (after_all d s entries) b

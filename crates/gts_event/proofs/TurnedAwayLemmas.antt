@@ -1,32 +1,22 @@
 -- What is turned away, and the lines of kept draws.
-use Rattle.std.proofs.Common.{◌≡◌, cond, ◌||◌, ℕ, ◌+◌, ◌<◌, ◌≤◌, Bool, true, false, ◌==◌, inl, inr, nat_le, nat_lt, List, [], ◌∷◌, length, Some, refl, ap, arith}
+use Rattle.std.proofs.Common.{◌≡◌, cond, ◌||◌, ℕ, ◌+◌, ◌<◌, ◌≤◌, Bool, true, false, ◌==◌, nat_le, nat_lt, List, [], ◌∷◌, length, Some, refl, ap, arith}
 use Rattle.gts_event.specs.Cited.{Accepted, Asked, Bulletin, Choice, CircuitState, Directory, Draw, Draws, Duplicate, Event, HasFrame, HeadingFields, Heard, IsHeld, IsTurnedAway, Kind, LineLost, Lost, Nothing, Nothing_waits, Outcome, Outside, Refused, Repeats, Resend, State, Taken, after, after_heard, after_take, choice, circuit_need, circuit_of_event, draws, enumerate_from, find, frame_of_draw, has, heading_of_message, is_kept, is_there, kept_on, no_heading, on, on_circuit, outcome, receipt_text, spoken}
 use Rattle.std.proofs.lemmas.Bool.{leb-true, ltb-true, eq-eqb, cases_lt, and_parts, or_left, or_right}
 use Rattle.gts_event.proofs.OrderLemmas.{list_all-has}
 use Rattle.gts_event.proofs.LeftLemmas.{kept_positions, length-kept}
+use Rattle.std.proofs.lemmas.Grind.{common_steps}
 
 -- ---- what is turned away
 
 state_heard : (d : Directory) (s : State) (c : ℕ) (kind : Kind) (message : List ℕ) (o : Outcome) → IsTurnedAway o → after_heard d s c kind message o ≡ s
 state_heard d s c kind message (Accepted p n) h = absurd h
 state_heard d s c kind message (Asked f m) h = absurd h
-state_heard d s c kind message (Duplicate position) h = refl
-state_heard d s c kind message (Refused refusal) h = refl
-state_heard d s c kind message (LineLost field) h = refl
-state_heard d s c kind message (Resend index) h = refl
-state_heard d s c kind message (Draw index) h = refl
-state_heard d s c kind message Nothing h = refl
+state_heard d s c kind message _ h = refl
 
 -- only an accepted bulletin's receipt has its heading
 receipt_alone : (c : ℕ) (o : Outcome) (heading : HeadingFields) → IsTurnedAway o → receipt_text c o heading ≡ receipt_text c o no_heading
 receipt_alone c (Accepted p n) heading h = absurd h
-receipt_alone c (Asked f m) heading h = refl
-receipt_alone c (Duplicate position) heading h = refl
-receipt_alone c (Refused refusal) heading h = refl
-receipt_alone c (LineLost field) heading h = refl
-receipt_alone c (Resend index) heading h = refl
-receipt_alone c (Draw index) heading h = refl
-receipt_alone c Nothing heading h = refl
+receipt_alone c _ heading h = refl
 
 abbrev take_outcome : Choice → Outcome
 take_outcome ch = elim ch as (λ _. Outcome) [ Repeats index ↦ Resend index | Draws index position ↦ Draw index | Nothing_waits ↦ Nothing ]
@@ -66,10 +56,7 @@ differ b one other = cc
 
 -- the next index is meant where this one isn't
 later_index : (a i : ℕ) → a ≤ i → (a == i) ≡ false → a + 1 ≤ i
-later_index a i low e = elim (cases_lt a i) as (λ _. a + 1 ≤ i) [
-  | inl more ↦ omega (arith, more)
-  | inr all ↦ absurd (differ (a == i) (eq-eqb a i (omega (arith, low, all))) e)
-]
+later_index a i low e = grind (arith, common_steps, cases_lt, differ, eq-eqb)
 
 -- the draw of an index among those of these positions
 draw_there : (a i : ℕ) (ps : List ℕ) → a ≤ i → i < a + length ps → (draw : ℕ × ℕ) × (find (λ r. r.0 == i) (enumerate_from a ps) ≡ Some draw) × (has ps draw.1 ≡ true)

@@ -1,11 +1,12 @@
 -- The recent bulletins, when one more is accepted.
-use Rattle.std.proofs.Common.{◌≡◌, ℕ, zero, suc, ◌+◌, ◌-◌, ◌<◌, ◌≤◌, min, Bool, true, false, nat_le, cond, List, [], ◌∷◌, ◌++◌, length, map, filter, drop, refl, sym, ap, ◌∙◌, inl, inr, arith}
+use Rattle.std.proofs.Common.{◌≡◌, ℕ, zero, suc, ◌+◌, ◌-◌, ◌≤◌, min, Bool, true, nat_le, cond, List, [], ◌∷◌, ◌++◌, length, map, filter, drop, refl, sym, ap, ◌∙◌, arith}
 use Rattle.gts_event.specs.Cited.{Bulletin, Directory, State, positions_of, range_with_len, recent, recent_among, recent_positions}
 use Rattle.std.proofs.lemmas.List.{drop-append-le, drop-map, length-map, length-append, map-append}
 use Rattle.std.proofs.lemmas.List.FromFn.{length-range_with_len}
 use Rattle.std.proofs.lemmas.List.Elements.{filter-append}
 use Rattle.std.proofs.lemmas.Bool.{cases_lt, le-leb, leb-true}
 use Rattle.gts_event.proofs.ListLemmas.{filter_first}
+use Rattle.std.proofs.lemmas.Grind.{common_steps}
 
 all_still : (w count a n : ℕ) (bs : List Bulletin) → positions_of bs ≡ range_with_len a n → count + 1 ≤ a + w → filter (λ (b : Bulletin). nat_le (count + 1) (b.position + w)) bs ≡ bs
 all_still w count a n [] e high = refl
@@ -20,40 +21,12 @@ all_still w count a (suc n) (b ∷ bs) e high =
 -- of the recent ones, the first is no longer recent where the window is full
 old_goes : (w count : ℕ) (bs : List Bulletin) → 1 ≤ w → positions_of bs ≡ range_with_len (count - w) (min w count)
     → filter (λ (b : Bulletin). nat_le (count + 1) (b.position + w)) bs ≡ drop (length bs + 1 - w) bs
-old_goes w count bs one e =
-    let size : length bs ≡ min w count = sym (length-map bs (λ (b : Bulletin). b.position)) ∙ ap length e ∙ length-range_with_len (count - w) (min w count) in
-    elim (cases_lt count w) [
-      | inl few ↦
-          let none : length bs + 1 - w ≡ 0 = omega (arith, size) in
-          all_still w count (count - w) (min w count) bs e (omega arith) ∙ ap (λ (k : ℕ). drop k bs) (sym none)
-      | inr full ↦
-          let single : length bs + 1 - w ≡ 1 = omega (arith, size) in
-          let all : min w count ≡ suc (w - 1) = omega arith in
-          first_goes bs (e ∙ ap (λ (n : ℕ). range_with_len (count - w) n) all) (omega arith) ∙ ap (λ (k : ℕ). drop k bs) (sym single)
-    ]
-  where
-    first_goes : (xs : List Bulletin) → positions_of xs ≡ range_with_len (count - w) (suc (w - 1)) → w ≤ count → filter (λ (b : Bulletin). nat_le (count + 1) (b.position + w)) xs ≡ drop 1 xs
-    first_goes [] k full = absurd (cc)
-    first_goes (b ∷ xs) k full =
-        let first : b.position ≡ count - w = cc in
-        let rest : positions_of xs ≡ range_with_len (count - w + 1) (w - 1) = cc in
-        let fails : nat_le (count + 1) (b.position + w) ≡ false = not_le (count + 1) (b.position + w) (omega arith) in
-        ap (λ t. cond t (b ∷ filter (λ (x : Bulletin). nat_le (count + 1) (x.position + w)) xs) (filter (λ (x : Bulletin). nat_le (count + 1) (x.position + w)) xs)) fails
-        ∙ all_still w count (count - w + 1) (w - 1) xs rest (omega arith)
-      where
-        not_le : (a b : ℕ) → b < a → nat_le a b ≡ false
-        not_le a b less = elim (nat_le a b) as (λ t. nat_le a b ≡ t → t ≡ false) [ true ↦ λ k. absurd (omega (arith, leb-true a b k)) | false ↦ λ k. refl ] refl
+old_goes w count bs one e = grind (arith, common_steps, length-map, length-range_with_len, cases_lt, all_still, leb-true)
 
 -- one bulletin more: those that are then among the last positions stay
 pub recent_more : (d : Directory) (t : State) (b : Bulletin) (new : State) → new.count ≡ t.count + 1 → new.accepted ≡ t.accepted ++ b ∷ []
     → recent d new ≡ recent_among d new.count (recent d t ++ b ∷ [])
-recent_more d t b new count accepted =
-    let p : Bulletin → Bool = λ x. nat_le t.count (x.position + d.window) in
-    let q : Bulletin → Bool = λ x. nat_le new.count (x.position + d.window) in
-    ap (filter q) accepted
-    ∙ filter-append q t.accepted (b ∷ [])
-    ∙ ap (λ (xs : List Bulletin). xs ++ filter q (b ∷ [])) (sym (filter_first p q t.accepted (λ x k. le-leb t.count (x.position + d.window) (let big = leb-true new.count (x.position + d.window) k in omega (arith, big, count)))))
-    ∙ sym (filter-append q (recent d t) (b ∷ []))
+recent_more d t b new count accepted = grind (arith, common_steps, filter-append, filter_first, le-leb, leb-true)
 
 -- where each recent position has its bulletin, as many of the last ones as the window has stay
 pub recent_next : (d : Directory) (t : State) (b : Bulletin) (new : State) → 1 ≤ d.window → positions_of (recent d t) ≡ recent_positions d t.count → b.position ≡ t.count
@@ -85,10 +58,7 @@ range_drop (suc k) a (suc n) =
 
 pub range_last : (a n : ℕ) → range_with_len a n ++ (a + n) ∷ [] ≡ range_with_len a (n + 1)
 range_last a zero = let same : a + 0 ≡ a = omega arith in ap (λ (x : ℕ). x ∷ []) same
-range_last a (suc n) =
-    let at : a + suc n ≡ a + 1 + n = omega arith in
-    let more : suc n + 1 ≡ suc (n + 1) = omega arith in
-    ap (λ (x : ℕ). a ∷ (range_with_len (a + 1) n ++ x ∷ [])) at ∙ ap (λ (xs : List ℕ). a ∷ xs) (range_last (a + 1) n) ∙ ap (λ (x : ℕ). range_with_len a x) (sym more)
+range_last a (suc n) = grind (arith, common_steps, range_last (a + 1) n)
 
 -- their positions are the recent ones again
 pub recent_all : (d : Directory) (t : State) (b : Bulletin) (new : State) → 1 ≤ d.window → positions_of (recent d t) ≡ recent_positions d t.count → b.position ≡ t.count

@@ -1,11 +1,12 @@
 -- The text of a request, and how it is read.
 use Rattle.std.proofs.Common.{◌≡◌, ℕ, zero, suc, ◌<◌, ◌≤◌, ◌^◌, inl, inr, Bool, true, false, ◌&&◌, ◌||◌, ◌==◌, nat_le, List, [], ◌∷◌, ◌++◌, length, take, drop, map, Ok, Err, Some, None, refl, sym, ap, subst, ◌∙◌, append_assoc, if◌then◌else◌, arith, take_while, codes, Result}
-use Rattle.gts_gap.specs.Cited.{AllByRecursion, Cccc, EOL, IsDigits, Item, MessageField, Number, Numbers, RequestField, Run, Sqn, are_capitals, ask_text, behind_asker, bytes_from, capitals_at, count_at, dec, digits_value, front_text, is_ascii_digit, item_text, items_at, items_of, items_text, list_all, more_text, numbers_at, numbers_of, request_at, run_at, text_of}
+use Rattle.gts_gap.specs.Cited.{AllByRecursion, Cccc, EOL, IsDigits, Item, MessageField, Number, Numbers, RequestField, Run, Sqn, are_capitals, ask_text, behind_asker, bytes_from, capitals_at, count_at, dec, is_ascii_digit, item_text, items_at, items_of, items_text, list_all, more_text, numbers_at, numbers_of, request_at, run_at, text_of}
 use Rattle.gts_request.specs.Request.{◌>>=◌, number_at}
 use Rattle.std.proofs.lemmas.Bool.{eqb-true, eq-eqb, le-leb, and_parts}
 use Rattle.std.proofs.lemmas.List.{append-nil, length-append, take_at, drop_at}
 use Rattle.gts_alphabet.proofs.LawLemmas.{length-dec, digits_value-dec, AllDigits-dec, test_from_AllDigits}
 use Rattle.std.proofs.lemmas.List.Sums.{take_while-cons}
+use Rattle.std.proofs.lemmas.Grind.{common_steps}
 
 -- runs as they are given
 abbrev pub triples : ℕ → List Run → List (ℕ × ℕ × ℕ)
@@ -30,14 +31,11 @@ found front back = Ok (front, back)
 
 items-line : (w : ℕ) (run : Run) (more : List Run) → items_text w (run ∷ more) ≡ item_text w run ++ more_text w (triples w more)
 items-line w run [] = sym (append-nil (item_text w run))
-items-line w run (next ∷ more) =
-    ap (λ (l : List ℕ). item_text w run ++ 47 ∷ [] ++ l) (items-line w next more)
-    ∙ (let e : item_text w run ++ 47 ∷ [] ++ (item_text w next ++ more_text w (triples w more)) ≡ item_text w run ++ (47 ∷ [] ++ item_text w next ++ more_text w (triples w more)) = simp append_assoc in e)
+items-line w run (next ∷ more) = grind (arith, common_steps, items-line w next more)
 
 pub one-line : (own : List ℕ) (w : ℕ) (rs : List Run) → (rs ≡ [] → ⊥) → text_of own w (triples w rs) ≡ ask_text own w rs
 one-line own w [] some = absurd (some refl)
-one-line own w (run ∷ more) some =
-    ap (λ (l : List ℕ). l ++ 61 ∷ []) (append_assoc (front_text own) (item_text w run) (more_text w (triples w more)) ∙ ap (λ (l : List ℕ). front_text own ++ l) (sym (items-line w run more)))
+one-line own w (run ∷ more) some = grind (arith, common_steps, items-line)
 
 -- ---- a number
 
@@ -48,9 +46,7 @@ run-end (d ∷ ds) x rest all other =
     take_while-cons is_ascii_digit d (ds ++ x ∷ rest) ∙ rw both.0 (ap (λ (l : List ℕ). d ∷ l) (run-end ds x rest both.1 other))
 
 run-read : (w n x : ℕ) (rest : List ℕ) → is_ascii_digit x ≡ false → run_at (dec w n ++ x ∷ rest) ≡ w
-run-read w n x rest other =
-    let all : list_all is_ascii_digit (dec w n) ≡ true = test_from_AllDigits (dec w n) (AllDigits-dec w n) in
-    ap length (run-end (dec w n) x rest all other) ∙ length-dec w n
+run-read w n x rest other = grind (arith, common_steps, test_from_AllDigits, AllDigits-dec, run-end, length-dec)
 
 counted : (w : ℕ) → IsDigits w → count_of w ≡ Ok w
 counted w (inl three) = ap count_of three ∙ ap just (sym three)
@@ -60,14 +56,7 @@ count-read : (w n x : ℕ) (rest : List ℕ) → IsDigits w → is_ascii_digit x
 count-read w n x rest digits other = ap count_of (run-read w n x rest other) ∙ counted w digits
 
 number-read : (w n x : ℕ) (rest : List ℕ) → n < 10 ^ w → is_ascii_digit x ≡ false → number_at w (dec w n ++ x ∷ rest) ≡ Ok (n, x ∷ rest)
-number-read w n x rest small other =
-    let ds : List ℕ = dec w n in
-    let count : (run_at (ds ++ x ∷ rest) == w) ≡ true = eq-eqb (run_at (ds ++ x ∷ rest)) w (run-read w n x rest other) in
-    let front : take w (ds ++ x ∷ rest) ≡ ds = take_at ds (x ∷ rest) w (length-dec w n) in
-    let back : drop w (ds ++ x ∷ rest) ≡ x ∷ rest = drop_at ds (x ∷ rest) w (length-dec w n) in
-    ap (λ (t : Bool). if t then ok_of (digits_value 10 (take w (ds ++ x ∷ rest))) (drop w (ds ++ x ∷ rest)) else Err Number) count
-    ∙ ap (λ (l : List ℕ). ok_of (digits_value 10 l) (drop w (ds ++ x ∷ rest))) front
-    ∙ ap (λ (l : List ℕ). ok_of (digits_value 10 ds) l) back ∙ ap (λ (v : ℕ). ok_of v (x ∷ rest)) (digits_value-dec w n small)
+number-read w n x rest small other = grind (arith, common_steps, eq-eqb, run-read, take_at, length-dec, drop_at, digits_value-dec)
 
 -- ---- an item
 
@@ -78,21 +67,7 @@ pub record EndsItem (x : ℕ) : Type 0 where
 
 item-read : (w : ℕ) (run : Run) (x : ℕ) (rest : List ℕ) → IsDigits w → run.first < 10 ^ w → run.last < 10 ^ w → EndsItem x
     → numbers_at (item_text w run ++ x ∷ rest) ≡ Ok (Numbers w run.first run.last, x ∷ rest)
-item-read w run x rest digits small fits ends = go (run.first == run.last) refl
-  where
-    one : numbers_at (dec w run.first ++ x ∷ rest) ≡ Ok (Numbers w run.first run.first, x ∷ rest)
-    one = rw (count-read w run.first x rest digits ends.other) (rw (number-read w run.first x rest small ends.other, ends.last) refl)
-
-    two : numbers_at (dec w run.first ++ 45 ∷ (dec w run.last ++ x ∷ rest)) ≡ Ok (Numbers w run.first run.last, x ∷ rest)
-    two =
-        rw (count-read w run.first 45 (dec w run.last ++ x ∷ rest) digits refl)
-        (rw (number-read w run.first 45 (dec w run.last ++ x ∷ rest) small refl) (rw (number-read w run.last x rest fits ends.other) refl))
-
-    go : (t : Bool) → (run.first == run.last) ≡ t
-        → numbers_at ((if t then dec w run.first else dec w run.first ++ 45 ∷ [] ++ dec w run.last) ++ x ∷ rest) ≡ Ok (Numbers w run.first run.last, x ∷ rest)
-    go true same = one ∙ ap (λ (l : ℕ). item_of w run.first l (x ∷ rest)) (eqb-true run.first run.last same)
-    go false other =
-        ap numbers_at (let e : (dec w run.first ++ 45 ∷ [] ++ dec w run.last) ++ x ∷ rest ≡ dec w run.first ++ 45 ∷ (dec w run.last ++ x ∷ rest) = simp append_assoc in e) ∙ two
+item-read w run x rest digits small fits ends = grind (arith, common_steps, count-read, number-read, eqb-true)
 
 -- ---- items
 

@@ -1,45 +1,33 @@
 -- Numbers that are added, as the bytes of a connection come.
-use Rattle.std.proofs.Common.{◌≡◌, ℕ, ◌<◌, List, [], ◌∷◌, ◌++◌, length, get_or, set, drop, map, Result, Ok, Err, refl, sym, ap, subst, ◌∙◌, append_assoc}
+use Rattle.std.proofs.Common.{◌≡◌, ℕ, ◌<◌, List, [], ◌++◌, length, get_or, set, map, Result, Ok, Err, refl, sym, ap, subst, ◌∙◌, append_assoc}
 use Rattle.std.proofs.lemmas.Grind.{flat_map-append}
 use Rattle.std.proofs.lemmas.List.{append-nil, length-set, length-map}
-use Rattle.gts_gap.specs.Cited.{Adds, Bad, CaptureFault, Compact, CompactHead, Decode, Decoding, DoesAll, DoesStep, Drain, DrainHead, Event, Feed, FeedHead, Feeds, FeedsAll, FrameStep, Held, IsFed, Numbered, ReadsOn, Reopen, ReopenHead, Restart, RestartHead, Rings, SourceFault, StandsAt, Take, TakeHead, events_added, events_of_signs, fresh, held_in, no_bytes, number_of_event, signs_of_step}
+use Rattle.gts_gap.specs.Cited.{Adds, Bad, CaptureFault, CompactHead, Decoding, DoesAll, DoesStep, Drain, DrainHead, Event, Feed, FeedHead, Feeds, FeedsAll, FrameStep, Held, IsFed, Numbered, ReadsOn, Reopen, ReopenHead, RestartHead, Rings, SourceFault, StandsAt, Take, TakeHead, events_added, events_of_signs, fresh, held_in, number_of_event, signs_of_step}
 use Rattle.gts_gap.specs.Counting.{numbers_of}
 use Rattle.gts_connection.proofs.LawLemmas.{added-twice, added-signs}
 use Rattle.gts_replay.proofs.StepLemmas.{takes_none}
 use Rattle.gts_replay.proofs.DecoderLemmas.{decode_at, decode_set, decode_reopened}
+use Rattle.std.proofs.lemmas.Grind.{common_steps}
+use Rattle.std.proofs.Common.{arith}
 
 -- ---- what is added
 
 pub adds_none : (rings : Rings) (more : ℕ → List Numbered) → ((c : ℕ) → more c ≡ []) → Adds rings rings more
-adds_none rings more none = λ c ns stands.
-    subst (λ (l : List Numbered). StandsAt rings c l) (sym (ap (λ (l : List Numbered). ns ++ l) (none c) ∙ append-nil ns)) stands
+adds_none rings more none = grind (arith, common_steps, append-nil)
 
 pub adds_more : (a b d : Rings) (x y z : ℕ → List Numbered) → Adds a b x → Adds b d y → ((c : ℕ) → z c ≡ x c ++ y c) → Adds a d z
-adds_more a b d x y z first second all = λ c ns stands.
-    subst (λ (l : List Numbered). StandsAt d c l) (append_assoc ns (x c) (y c) ∙ ap (λ (l : List Numbered). ns ++ l) (sym (all c))) (second c (ns ++ x c) (first c ns stands))
+adds_more a b d x y z first second all = grind (arith, common_steps)
 
 pub adds_same : (a b : Rings) (x y : ℕ → List Numbered) → Adds a b x → ((c : ℕ) → y c ≡ x c) → Adds a b y
 adds_same a b x y first same = λ c ns stands. subst (λ (l : List Numbered). StandsAt b c (ns ++ l)) (sym (same c)) (first c ns stands)
 
 nothing_added : (c : ℕ) (before : List ℕ) → events_added c before [] ≡ []
-nothing_added c before = done (added-twice c before [] [])
-  where
-    none : (xs ys : List Event) → xs ≡ xs ++ ys → ys ≡ []
-    none [] ys e = sym e
-    none (x ∷ xs) ys e = none xs ys (ap (drop 1) e)
-
-    done : events_added c before [] ≡ events_added c before [] ++ events_added c (before ++ []) [] → events_added c before [] ≡ []
-    done e =
-        let last = none (events_added c before []) (events_added c (before ++ []) []) e in
-        subst (λ (b : List ℕ). events_added c b [] ≡ []) (append-nil before) last
+nothing_added c before = grind (arith, common_steps, added-twice, append-nil)
 
 -- ---- piece by piece
 
 pub fed_none : (c : ℕ) (old : Decoding) (first : Rings) → IsFed c old first [] old first
-fed_none c old first = record {
-  held = λ before is. is ∙ ap held_in (sym (append-nil before));
-  adds = λ before is. adds_none first (numbers_of (events_added c before [])) (λ e. ap (λ (events : List Event). numbers_of events e) (nothing_added c before));
-}
+fed_none c old first = grind (arith, common_steps, append-nil, adds_none, nothing_added)
 
 pub fed_piece : (c : ℕ) (old : Decoding) (first : Rings) (bytes piece : List ℕ) (decoder next : Decoding) (now later : Rings) → IsFed c old first bytes decoder now
     → ((before : List ℕ) → decoder.held ≡ held_in before → next.held ≡ held_in (before ++ piece))
@@ -101,15 +89,7 @@ does_drain observed c held left ds old none = record {
 }
 
 pub does_compact : (observed : Type 0) (held : Held) (left : List ℕ) (ds : List Decoding) (old : Rings) → held.feed ≡ 0 → DoesAll observed CompactHead held held left left ds ds old old
-does_compact observed held left ds old none = record {
-  step = Compact;
-  of_head = refl;
-  taken = takes_none observed held left;
-  whole = none;
-  adds = λ bs e. adds_none old (λ e. []) (λ e. refl);
-  decode = λ d bs each e. e;
-  circuits = refl;
-}
+does_compact observed held left ds old none = grind (arith, common_steps, takes_none, adds_none)
 
 pub does_reopen : (observed : Type 0) (c : ℕ) (held : Held) (left : List ℕ) (ds : List Decoding) (next : Decoding) (old : Rings) → next ≡ fresh → held.feed ≡ 0
     → DoesAll observed (ReopenHead c) held held left left ds (set ds c next) old old
@@ -125,15 +105,7 @@ does_reopen observed c held left ds next old is none = record {
 
 pub does_restart : (observed : Type 0) (held : Held) (left : List ℕ) (ds ds_now : List Decoding) (old : Rings) → ds_now ≡ map (λ _. fresh) ds → held.feed ≡ 0
     → DoesAll observed RestartHead held held left left ds ds_now old old
-does_restart observed held left ds ds_now old anew none = record {
-  step = Restart;
-  of_head = refl;
-  taken = takes_none observed held left;
-  whole = none;
-  adds = λ bs e. adds_none old (λ e. []) (λ e. refl);
-  decode = λ d bs each e. subst (λ (xs : List Decoding). Decode xs (no_bytes d)) (sym anew) (decode_reopened ds d (sym each));
-  circuits = ap length anew ∙ length-map {B = Decoding} ds (λ _. fresh);
-}
+does_restart observed held left ds ds_now old anew none = grind (arith, common_steps, takes_none, adds_none, decode_reopened, length-map)
 
 pub feeds_step : (observed : Type 0) (c n : ℕ) (result : Result (Unit {0}) CaptureFault) (held held_now : Held) (left left_now : List ℕ) (ds : List Decoding) (x next : Decoding) (old new : Rings) → c < length ds
     → Feeds observed c result held held_now left left_now (get_or ds c x) next old new → DoesStep observed (FeedHead c n) result held held_now left left_now ds (set ds c next) old new

@@ -1,6 +1,6 @@
 -- Steps of a capture, one after another, and the numbers that they add.
-use Rattle.std.proofs.Common.{◌≡◌, ℕ, ◌+◌, ◌-◌, ◌^◌, ◌≤◌, List, [], ◌∷◌, ◌++◌, length, refl, sym, ap, subst, ◌∙◌, arith, append_assoc, length-append}
-use Rattle.gts_gap.specs.Cited.{AreSteps, CompactHead, Connections, Decode, Decoding, Directory, DoesAll, DrainHead, EndHead, EndsInStep, FeedHead, Held, IsBadAt, IsCutAt, IsHead, IsHeadIn, IsNew, IsRead, IsReadTo, IsStepOf, Journaled, LONGEST_CAPTURE, Numbered, ReopenHead, RestartHead, Rings, StandFor, StandsAt, Step, TakeHead, Takes, after_step, at_start, bytes_announced, bytes_of_step, connections_after, events_with, flat_map, head_text, no_bytes, number_of_event, numbers, numbers_from, readable_from, step_text}
+use Rattle.std.proofs.Common.{◌≡◌, ℕ, ◌+◌, ◌-◌, ◌^◌, ◌≤◌, List, [], ◌∷◌, ◌++◌, length, refl, sym, ap, subst, ◌∙◌, arith}
+use Rattle.gts_gap.specs.Cited.{AreSteps, CompactHead, Connections, Decode, Decoding, Directory, DoesAll, DrainHead, EndHead, EndsInStep, FeedHead, Held, IsBadAt, IsCutAt, IsHead, IsNew, IsRead, IsReadTo, IsStepOf, Journaled, LONGEST_CAPTURE, ReopenHead, RestartHead, Rings, StandFor, Step, TakeHead, after_step, at_start, bytes_announced, bytes_of_step, connections_after, events_with, flat_map, head_text, no_bytes, number_of_event, numbers, numbers_from, readable_from}
 use Rattle.gts_connection.specs.Capture.{Head, head_of}
 use Rattle.std.proofs.lemmas.List.{append-nil}
 use Rattle.gts_connection.proofs.LawLemmas.{connections_go_on}
@@ -8,6 +8,7 @@ use Rattle.gts_replay.proofs.LawLemmas.{begins, one_step, at_end, at_bad}
 use Rattle.gts_replay.proofs.RunLemmas.{ReadsHead, head_here}
 use Rattle.gts_replay.proofs.FollowLemmas.{cut_in}
 use Rattle.gts_replay.proofs.EndLemmas.{two_each}
+use Rattle.std.proofs.lemmas.Grind.{common_steps}
 
 -- These steps were done: the table stands for their numbers, the decoders have what came on their connections, and the reader
 -- stands behind them.
@@ -23,31 +24,14 @@ pub record Runs (observed : Type 0) (d : Directory) (bytes : List ℕ) (steps : 
 
 pub runs_none : (observed : Type 0) (d : Directory) (bytes : List ℕ) (held : Held) (ds : List Decoding) (rings : Rings)
     → held ≡ at_start (length rings) Journaled → length ds ≡ length rings → IsNew d rings ds → Runs observed d bytes [] held bytes ds rings
-runs_none observed d bytes held ds rings is each new =
-    let here : held ≡ at_start (length d.circuits) Journaled = is ∙ ap (λ (n : ℕ). at_start n Journaled) new.circuits in
-    let P : Held → Type 0 = λ x. IsReadTo Journaled d bytes [] x (x.ahead ++ bytes) in
-    record {
-      circuits = ap (λ (x : Held). x.circuits) here;
-      of_kind = ap (λ (x : Held). x.kind) here;
-      are = tt;
-      read = λ t. subst P (sym here) (begins Journaled d bytes (at_start (length d.circuits) Journaled) refl);
-      decoders = each ∙ new.circuits;
-      decode = new.decode;
-      each = new.circuits;
-      stand = new.empty;
-    }
+runs_none observed d bytes held ds rings is each new = grind (arith, common_steps, begins)
 
 -- ---- one step more
 
 -- a step that was done is that of its head
 step_whole : (head : Head) (step : Step) → IsStepOf head step → length (bytes_of_step step) ≡ bytes_announced head → head_of step ≡ head
 step_whole (FeedHead c n) step of size = ap head_of of.1 ∙ ap (FeedHead c) (ap (λ (s : Step). length (bytes_of_step s)) (sym of.1) ∙ size)
-step_whole (TakeHead c) step of size = of
-step_whole (ReopenHead c) step of size = of
-step_whole (DrainHead c) step of size = of
-step_whole RestartHead step of size = of
-step_whole CompactHead step of size = of
-step_whole EndHead step of size = of
+step_whole _ step of size = of
 
 are_more : (d : Directory) (steps : List Step) (step : Step) → AreSteps d steps → IsHead d (head_of step) → AreSteps d (steps ++ step ∷ [])
 are_more d [] step are valid = (valid, tt)
@@ -56,45 +40,17 @@ are_more d (s ∷ steps) step are valid = (are.0, are_more d steps step are.1 va
 numbers_go_on : (d : Directory) (bs : Connections) (c : ℕ) (steps more : List Step)
     → numbers_from d bs c (steps ++ more) ≡ numbers_from d bs c steps ++ numbers_from d (connections_after d bs steps) c more
 numbers_go_on d bs c [] more = refl
-numbers_go_on d bs c (step ∷ steps) more =
-    let first : List Numbered = flat_map (number_of_event c) (events_with bs step) in
-    ap (λ (l : List Numbered). first ++ l) (numbers_go_on d (after_step d bs step) c steps more)
-    ∙ sym (append_assoc first (numbers_from d (after_step d bs step) c steps) (numbers_from d (connections_after d (after_step d bs step) steps) c more))
+numbers_go_on d bs c (step ∷ steps) more = grind (arith, common_steps, numbers_go_on d (after_step d bs step) c steps more)
 
 numbers_more : (d : Directory) (c : ℕ) (steps : List Step) (step : Step)
     → numbers d c (steps ++ step ∷ []) ≡ numbers d c steps ++ flat_map (number_of_event c) (events_with (connections_after d (no_bytes d) steps) step)
-numbers_more d c steps step =
-    let bs : Connections = connections_after d (no_bytes d) steps in
-    numbers_go_on d (no_bytes d) c steps (step ∷ []) ∙ ap (λ (l : List Numbered). numbers d c steps ++ l) (append-nil (flat_map (number_of_event c) (events_with bs step)))
+numbers_more d c steps step = grind (arith, common_steps, numbers_go_on, append-nil)
 
 pub runs_more : (observed : Type 0) (d : Directory) (bytes : List ℕ) (steps : List Step) (old mid new : Held) (before left after : List ℕ) (ds ds_now : List Decoding) (rings rings_now : Rings) (head : Head)
     → Runs observed d bytes steps old before ds rings → ReadsHead observed head old mid before left → (does : DoesAll observed head mid new left after ds ds_now rings rings_now)
     → length rings_now ≡ length rings → Runs observed d bytes (steps ++ does.step ∷ []) new after ds_now rings_now
 runs_more observed d bytes steps old mid new before left after ds ds_now rings rings_now head runs reads does same =
-    let step : Step = does.step in
-    let bs : Connections = connections_after d (no_bytes d) steps in
-    let x : List ℕ = bytes_of_step step in
-    let taken : Takes observed x mid new left after = does.taken in
-    let size : length x ≡ bytes_announced head = omega (arith, taken.feed, does.whole, reads.feed) in
-    let whole : head_of step ≡ head = step_whole head step does.of_head size in
-    let place : new.at ≡ mid.at + length x = taken.at in
-    let valid : IsHeadIn old.circuits old.kind (head_of step) = subst (λ (k : Head). IsHeadIn old.circuits old.kind k) (sym whole) reads.valid in
-    let long : length (step_text step) ≡ length (head_text head) + length x = length-append (head_text (head_of step)) x ∙ ap (λ (k : Head). length (head_text k) + length x) whole in
-    record {
-      circuits = taken.same.circuits ∙ reads.same.circuits ∙ runs.circuits;
-      of_kind = taken.same.kind ∙ reads.same.kind ∙ runs.of_kind;
-      are = are_more d steps step runs.are (head_here Journaled d old.circuits (head_of step) old.kind runs.circuits runs.of_kind valid);
-      read = λ t.
-          let text : old.ahead ++ before ≡ step_text step ++ (new.ahead ++ after) =
-          reads.told t ∙ ap (λ (xs : List ℕ). head_text head ++ xs) (taken.told t) ∙ sym (append_assoc (head_text head) x (new.ahead ++ after))
-          ∙ ap (λ (k : Head). head_text k ++ x ++ (new.ahead ++ after)) (sym whole) in
-          one_step Journaled d bytes (old.ahead ++ before) (new.ahead ++ after) steps step old new (runs.read t) valid text
-          record { circuits = taken.same.circuits ∙ reads.same.circuits; kind = taken.same.kind ∙ reads.same.kind } (omega (arith, place, reads.at, long)) (taken.within reads.within);
-      decoders = does.circuits ∙ runs.decoders;
-      decode = subst (λ cs. Decode ds_now cs) (sym (connections_go_on d steps (step ∷ []))) (does.decode d bs (sym runs.decoders) runs.decode);
-      each = same ∙ runs.each;
-      stand = λ c within. subst (λ (l : List Numbered). StandsAt rings_now c l) (sym (numbers_more d c steps step)) (does.adds bs runs.decode c (numbers d c steps) (runs.stand c within));
-    }
+    grind (arith, common_steps, step_whole, are_more, head_here, one_step, connections_go_on, numbers_more)
 
 -- ---- how it ends
 
@@ -125,6 +81,4 @@ ends_in_step observed d bytes steps old mid before left ds rings head at runs re
 
 pub ends_never : (observed : Type 0) (d : Directory) (bytes : List ℕ) (steps : List Step) (held : Held) (left : List ℕ) (ds : List Decoding) (rings : Rings) (at : ℕ)
     → Runs observed d bytes steps held left ds rings → 2 ^ 64 - 1 ≤ length steps → IsCutAt observed d bytes at
-ends_never observed d bytes steps held left ds rings at runs many = λ t.
-    let r = runs.read t in
-    absurd (omega (arith, many, two_each steps, r.place, r.within))
+ends_never observed d bytes steps held left ds rings at runs many = grind (arith, common_steps, two_each)

@@ -9,6 +9,7 @@ use Rattle.gts_alphabet.proofs.LawLemmas.{length-dec}
 use Rattle.gts_traits.proofs.OutsideLemmas.{on-append}
 use Rattle.gts_traits.proofs.SayLemmas.{said_more, front_behind, front_more}
 use Rattle.gts_gap.proofs.AskLemmas.{triples, one-line}
+use Rattle.std.proofs.lemmas.Grind.{common_steps}
 
 -- ---- pieces
 
@@ -19,8 +20,7 @@ tells_behind (Err e) a b c x y first second = front_behind a b c x y first secon
 -- on one channel
 pub tells_on : {T E : Type 0} (result : Result T E) (a b c : List Call) (channel : ℕ) (x y : List ℕ) → SaysOnly a b (on channel x) → Tells result (on channel y) b c
     → Tells result (on channel (x ++ y)) a c
-tells_on result a b c channel x y first second =
-    subst (λ (o : Outside). Tells result o a c) (sym (on-append channel x y)) (tells_behind result a b c (on channel x) (on channel y) first second)
+tells_on result a b c channel x y first second = grind (arith, common_steps, on-append, tells_behind)
 
 pub front_on : (a b : List Call) (channel : ℕ) (x y : List ℕ) → SaysFront a b (on channel x) → SaysFront a b (on channel (x ++ y))
 front_on a b channel x y first = subst (λ (o : Outside). SaysFront a b o) (sym (on-append channel x y)) (front_more a b (on channel x) (on channel y) first)
@@ -36,12 +36,7 @@ lines_given c w (run ∷ rs) = ap (λ (l : List ℕ). codes "gap " ++ dec 2 c ++
 frame_parts : (heading text : List ℕ) → length heading ≡ 18
     → frame An (message_of (codes "000") (heading ++ EOL ++ text ++ message_end))
     ≡ (dec 8 (35 + length text) ++ codes "AN" ++ SOH ∷ [] ++ EOL ++ codes "000" ++ EOL ++ heading ++ EOL) ++ text ++ message_end
-frame_parts heading text long =
-    let body : List ℕ = heading ++ EOL ++ text ++ message_end in
-    let message : List ℕ = message_of (codes "000") body in
-    let size : length message ≡ 35 + length text =
-    omega (arith, long, length-append (heading ++ EOL ++ text) message_end, length-append (heading ++ EOL) text, length-append heading EOL, length-append (SOH ∷ EOL ++ codes "000" ++ EOL) body) in
-    ap (λ (n : ℕ). dec 8 n ++ codes "AN" ++ message) size ∙ simp append_assoc
+frame_parts heading text long = grind (arith, common_steps, length-append)
 
 heading_is : (peer : List ℕ) (moment : Moment)
     → heading_text (ask_heading peer moment.day moment.hour moment.minute) ≡ codes "BMRR01 " ++ peer ++ codes " " ++ dec 2 moment.day ++ dec 2 moment.hour ++ dec 2 moment.minute
@@ -91,9 +86,7 @@ asked_some d moment c w (run ∷ rs) some =
 
 pub said_more_of : (d : Directory) (moment : Moment) (numbers : ℕ → List Numbered) (c count : ℕ)
     → said_from d moment numbers c (count + 1) ≡ said_from d moment numbers c count ++ said_of d moment (c + count) (numbers (c + count))
-said_more_of d moment numbers c zero =
-    let here : c + 0 ≡ c = omega arith in
-    append-nil (said_of d moment c (numbers c)) ∙ ap (λ (k : ℕ). said_of d moment k (numbers k)) (sym here)
+said_more_of d moment numbers c zero = grind (arith, common_steps, append-nil)
 said_more_of d moment numbers c (suc count) =
     let next : suc count + 1 ≡ suc (count + 1) = omega arith in
     let place : c + 1 + count ≡ c + suc count = omega arith in

@@ -1,10 +1,11 @@
 -- Bytes that a text doesn't have.
-use Rattle.std.proofs.Common.{◌≡◌, ℕ, zero, suc, ◌+◌, ◌/◌, ◌%◌, ◌<◌, ◌≤◌, Bool, true, false, cond, not, ◌&&◌, ◌||◌, ◌==◌, nat_le, nat_lt, List, [], ◌∷◌, ◌++◌, Option, Some, None, inl, inr, refl, ◌∙◌, arith, decimal, count_by}
+use Rattle.std.proofs.Common.{◌≡◌, ℕ, zero, suc, ◌+◌, ◌/◌, ◌%◌, ◌<◌, ◌≤◌, Bool, true, false, cond, not, ◌&&◌, ◌||◌, ◌==◌, List, [], ◌∷◌, ◌++◌, Option, Some, None, refl, ◌∙◌, arith, decimal, count_by}
 use Rattle.gts_generate.specs.Cited.{HeadingFields, IsHeading, are_capitals, dec, digit_glyph, digits_onto, group_text, heading_text, is_ascii_uppercase, is_group, list_all}
 use Rattle.std.specs.Fmt.{digits}
 use Rattle.std.proofs.lemmas.Bool.{eqb-true, leb-true, ne_eqb, and_parts, and_from, or_cases}
 use Rattle.std.proofs.lemmas.List.Folds.{list_all-append}
 use Rattle.std.proofs.lemmas.List.Sums.{sum_by-cons}
+use Rattle.std.proofs.lemmas.Grind.{common_steps}
 
 -- a byte stands nowhere in a text
 abbrev pub lacks : ℕ → List ℕ → Bool
@@ -23,16 +24,11 @@ one_more x b bytes differs e = and_from (not (b == x)) (lacks x bytes) (other b 
 pub lacks-dec : (x w n : ℕ) → x < 48 → lacks x (dec w n) ≡ true
 unfolding dec
 lacks-dec x zero n low = refl
-lacks-dec x (suc w) n low =
-    lacks-append x (dec w (n / 10)) ((48 + n % 10) ∷ []) (lacks-dec x w (n / 10) low) (one_more x (48 + n % 10) [] (λ e. absurd (omega arith)) refl)
+lacks-dec x (suc w) n low = grind (arith, common_steps, lacks-append, one_more, lacks-dec x w (n / 10) low)
 
 -- nor those of a plain decimal
 glyph : (x d : ℕ) → x < 48 → digit_glyph false d ≡ x → ⊥
-glyph x d low e = go (nat_lt d 10) e
-  where
-    go : (b : Bool) → cond b (48 + d) (87 + d) ≡ x → ⊥
-    go true e' = absurd (omega arith)
-    go false e' = absurd (omega arith)
+glyph x d low e = grind (arith, common_steps)
 
 lacks-onto : (x k n : ℕ) (acc : List ℕ) → x < 48 → lacks x acc ≡ true → lacks x (digits_onto k 10 false n acc) ≡ true
 lacks-onto x zero n acc low e = e
@@ -50,8 +46,7 @@ lacks-decimal x n low = lacks-onto x 64 n [] low refl
 
 -- capitals are no byte below 65
 capital : (x b : ℕ) → x < 65 → is_ascii_uppercase b ≡ true → b ≡ x → ⊥
-capital x b low up e =
-    let from : 65 ≤ b = leb-true 65 b (and_parts (nat_le 65 b) (nat_le b 90) up).0 in absurd (omega arith)
+capital x b low up e = grind (arith, common_steps, leb-true, and_parts)
 
 pub lacks-capitals : (x : ℕ) (letters : List ℕ) → x < 65 → are_capitals letters ≡ true → lacks x letters ≡ true
 lacks-capitals x [] low up = refl
@@ -64,39 +59,17 @@ abbrev are_group : ℕ → ℕ → Bool
 are_group a b = ((a == 82) && (b == 82)) || ((a == 67) && (b == 67)) || ((a == 65) && (b == 65)) || ((a == 80) && is_ascii_uppercase b)
 
 equal-high : (n a b : ℕ) → 65 ≤ n → ((a == n) && (b == n)) ≡ true → (65 ≤ a) × (65 ≤ b)
-equal-high n a b low e =
-    let both = and_parts (a == n) (b == n) e in
-    let first : a ≡ n = eqb-true a n both.0 in
-    let second : b ≡ n = eqb-true b n both.1 in
-    (omega arith, omega arith)
+equal-high n a b low e = grind (arith, common_steps, and_parts, eqb-true)
 
 group-high : (a b : ℕ) → are_group a b ≡ true → (65 ≤ a) × (65 ≤ b)
-group-high a b e = elim (or_cases (((a == 82) && (b == 82)) || ((a == 67) && (b == 67)) || ((a == 65) && (b == 65))) ((a == 80) && is_ascii_uppercase b) e) [
-  | inl one ↦ elim (or_cases (((a == 82) && (b == 82)) || ((a == 67) && (b == 67))) ((a == 65) && (b == 65)) one) [
-    | inl two ↦ elim (or_cases ((a == 82) && (b == 82)) ((a == 67) && (b == 67)) two) [
-      | inl r ↦ equal-high 82 a b (omega arith) r
-      | inr c ↦ equal-high 67 a b (omega arith) c
-    ]
-    | inr aa ↦ equal-high 65 a b (omega arith) aa
-  ]
-  | inr p ↦
-      let both = and_parts (a == 80) (is_ascii_uppercase b) p in
-      let first : a ≡ 80 = eqb-true a 80 both.0 in
-      let second : 65 ≤ b = leb-true 65 b (and_parts (nat_le 65 b) (nat_le b 90) both.1).0 in
-      (omega arith, second)
-]
+group-high a b e = grind (arith, common_steps, or_cases, equal-high, and_parts, eqb-true, leb-true)
 
 lacks-group : (x : ℕ) (bbb : Option (List ℕ)) → x < 32 → is_group bbb ≡ true → lacks x (group_text bbb) ≡ true
 lacks-group x None low is = refl
 lacks-group x (Some []) low is = absurd (cc)
 lacks-group x (Some (a ∷ [])) low is = absurd (cc)
 lacks-group x (Some (a ∷ b ∷ [])) low is = absurd (cc)
-lacks-group x (Some (a ∷ b ∷ c ∷ [])) low is =
-    let both = and_parts (is_ascii_uppercase c) (are_group a b) is in
-    let high : (65 ≤ a) × (65 ≤ b) = group-high a b both.1 in
-    let last : lacks x (c ∷ []) ≡ true = one_more x c [] (capital x c (omega arith) both.0) refl in
-    let middle : lacks x (b ∷ c ∷ []) ≡ true = one_more x b (c ∷ []) (λ e. absurd (omega arith)) last in
-    one_more x 32 (a ∷ b ∷ c ∷ []) (λ e. absurd (omega arith)) (one_more x a (b ∷ c ∷ []) (λ e. absurd (omega arith)) middle)
+lacks-group x (Some (a ∷ b ∷ c ∷ [])) low is = grind (arith, common_steps, and_parts, group-high, one_more, capital)
 lacks-group x (Some (a ∷ b ∷ c ∷ e ∷ more)) low is = absurd (cc)
 
 -- the text of a heading whose letters lack it
@@ -123,10 +96,7 @@ lacks-heading_text x h low tt_lacks aa_lacks cccc_lacks bbb_lacks =
 
 -- a heading has no byte below 32
 pub lacks-heading : (x : ℕ) (h : HeadingFields) → x < 32 → IsHeading h → lacks x (heading_text h) ≡ true
-lacks-heading x h low is =
-    let under : x < 65 = omega arith in
-    lacks-heading_text x h low (lacks-capitals x h.tt under is.tt.1) (lacks-capitals x h.aa under is.aa.1)
-    (lacks-capitals x h.cccc under is.cccc.1) (lacks-group x h.bbb low is.bbb)
+lacks-heading x h low is = grind (arith, common_steps, lacks-heading_text, lacks-capitals, lacks-group)
 
 -- a byte that a text lacks isn't counted in it
 passes_on : (b : Bool) (n : ℕ) → not b ≡ true → cond b 1 0 + n ≡ n

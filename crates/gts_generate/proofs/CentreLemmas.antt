@@ -1,31 +1,25 @@
 -- The rows of the directory, one behind another, and the directory that they are.
-use Rattle.std.proofs.Common.{◌≡◌, ℕ, zero, suc, ◌+◌, ◌%◌, ◌<◌, bit_or, List, [], ◌∷◌, ◌++◌, map, refl, sym, ◌∙◌, ap, subst, append_assoc, arith, ◌^◌, Result, Ok, Err, codes, replicate}
+use Rattle.std.proofs.Common.{◌≡◌, ℕ, zero, suc, ◌+◌, ◌%◌, ◌<◌, bit_or, List, [], ◌∷◌, ◌++◌, map, refl, sym, ◌∙◌, ap, subst, arith, ◌^◌, Result, Ok, Err, codes, replicate}
 use Rattle.gts_generate.specs.Cited.{CircuitRow, DirFault, Directory, Rows, RuleRow, checked, circuit_row, dec, directory, level_rows, localhost, no_rows, range_with_len, rows, rule_row}
 use Rattle.std.proofs.lemmas.List.FromFn.{map-range_with_len_more}
+use Rattle.std.proofs.lemmas.Grind.{common_steps}
 
 -- one row of many behind others
 row-more : {A : Type 0} (f : ℕ → A) (front : List A) (j : ℕ) (row : A) → row ≡ f j
     → (front ++ map f (range_with_len 0 j)) ++ row ∷ [] ≡ front ++ map f (range_with_len 0 (j + 1))
-row-more f front j row is =
-    ap (λ (r : _). (front ++ map f (range_with_len 0 j)) ++ r ∷ []) is
-    ∙ append_assoc front (map f (range_with_len 0 j)) (f j ∷ [])
-    ∙ ap (λ (l : List _). front ++ l) (sym (map-range_with_len_more f 0 j j (omega arith)))
+row-more f front j row is = grind (arith, common_steps, map-range_with_len_more)
 
 pub circuit-added : (first old new : Rows) (j : ℕ) (row : CircuitRow)
     → old ≡ record first { circuits = first.circuits ++ map circuit_row (range_with_len 0 j) } → row ≡ circuit_row j
     → new ≡ record old { circuits = old.circuits ++ row ∷ [] }
     → new ≡ record first { circuits = first.circuits ++ map circuit_row (range_with_len 0 (j + 1)) }
-circuit-added first old new j row before is done =
-    done ∙ ap (λ (r : Rows). record r { circuits = r.circuits ++ row ∷ [] }) before
-    ∙ ap (λ (l : List CircuitRow). record first { circuits = l }) (row-more circuit_row first.circuits j row is)
+circuit-added first old new j row before is done = grind (arith, common_steps, row-more)
 
 pub rule-added : (first old new : Rows) (j : ℕ) (row : RuleRow)
     → old ≡ record first { rules = first.rules ++ map rule_row (range_with_len 0 j) } → row ≡ rule_row j
     → new ≡ record old { rules = old.rules ++ row ∷ [] }
     → new ≡ record first { rules = first.rules ++ map rule_row (range_with_len 0 (j + 1)) }
-rule-added first old new j row before is done =
-    done ∙ ap (λ (r : Rows). record r { rules = r.rules ++ row ∷ [] }) before
-    ∙ ap (λ (l : List RuleRow). record first { rules = l }) (row-more rule_row first.rules j row is)
+rule-added first old new j row before is done = grind (arith, common_steps, row-more)
 
 -- two of the eight circuits, as a set
 two_of_eight : (m : ℕ) → m < 8 → bit_or (bit_or 0 (2 ^ m)) (2 ^ ((m + 3) % 8)) ≡ 2 ^ m + 2 ^ ((m + 3) % 8)
@@ -54,10 +48,7 @@ pub rows-made : (r₀ r₁ r₂ r₃ : Rows) → r₀ ≡ no_rows (codes "TVSV")
     → r₁ ≡ record r₀ { circuits = r₀.circuits ++ map circuit_row (range_with_len 0 8) }
     → r₂ ≡ record r₁ { rules = r₁.rules ++ map rule_row (range_with_len 0 60) }
     → r₃ ≡ record r₂ { levels = r₂.levels ++ level_rows } → r₃ ≡ rows
-rows-made r₀ r₁ r₂ r₃ empty circuits rules levels =
-    levels ∙ ap (λ (r : Rows). record r { levels = r.levels ++ level_rows })
-    (rules ∙ ap (λ (r : Rows). record r { rules = r.rules ++ map rule_row (range_with_len 0 60) })
-    (circuits ∙ ap (λ (r : Rows). record r { circuits = r.circuits ++ map circuit_row (range_with_len 0 8) }) empty))
+rows-made r₀ r₁ r₂ r₃ empty circuits rules levels = grind (arith, common_steps)
 
 -- what is read of these rows
 pub directory-read : (r : Rows) (d : Directory) → r ≡ rows → checked r ≡ Ok d → d ≡ directory

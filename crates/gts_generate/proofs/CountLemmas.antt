@@ -1,25 +1,20 @@
 -- What was accepted and drawn, event by event.
-use Rattle.std.proofs.Common.{◌≡◌, ℕ, ◌+◌, ◌<◌, ◌≤◌, Bool, true, false, cond, Option, Some, None, Result, Ok, Err, List, [], ◌∷◌, ◌++◌, length, get_or, map, inl, inr, refl, ap, arith, count_by, sum, zip, is_none, nat_lt}
-use Rattle.gts_generate.specs.Cited.{Accepted, Asked, Bulletin, Choice, Circuit, CircuitNeed, CircuitState, Directory, Done, Doubt, Draw, Draws, Duplicate, Entry, Event, Heard, Idle, IsOrdered, Item, Kind, LineLost, Lost, Many, Message, MessageField, MessageParts, Nothing, Nothing_waits, Outcome, Refused, Repeats, RequestField, Resend, Restarted, State, Taken, Unsaid, after, after_all, after_entry, after_heard, after_take, all_owed_last, answer, answer_to, choice, circuit_need, draws, draws_in, duplicate, enumerate_from, found, has, heading_of_message, idle, is_accepted, is_draw, is_request, items_of, keeps_one, most_owed, named, need, on_circuit, outcome, outcome_of, outcomes, owed_again, owed_last, places, request_at, split_at, sum_by, verdict, waiting, with_drawn, with_repeated, with_routed}
+use Rattle.std.proofs.Common.{◌≡◌, ℕ, ◌+◌, ◌<◌, ◌≤◌, Bool, true, false, cond, Option, Some, None, Result, Ok, Err, List, [], ◌∷◌, length, get_or, map, refl, arith, count_by, sum, zip}
+use Rattle.gts_generate.specs.Cited.{Accepted, Asked, Bulletin, Choice, Circuit, CircuitNeed, CircuitState, Directory, Done, Doubt, Draw, Draws, Duplicate, Entry, Event, Heard, Idle, IsOrdered, Item, Kind, LineLost, Lost, Message, MessageField, MessageParts, Nothing, Nothing_waits, Outcome, Refused, Repeats, RequestField, Resend, Restarted, State, Taken, Unsaid, after, after_all, after_entry, after_heard, after_take, all_owed_last, answer, answer_to, choice, circuit_need, draws, draws_in, enumerate_from, has, heading_of_message, idle, is_accepted, is_draw, keeps_one, named, need, on_circuit, outcome, outcome_of, outcomes, owed_again, owed_last, places, split_at, sum_by, verdict, with_repeated, with_routed}
 use Rattle.std.proofs.lemmas.Bool.{cases_lt}
 use Rattle.std.proofs.lemmas.List.{set_past, get_or_past, length-append}
 use Rattle.std.proofs.lemmas.List.Sums.{sum_by-append, sum_by-cons, sum_by-set}
 use Rattle.std.proofs.Math.ListN.{set}
 use Rattle.gts_event.proofs.LawLemmas.{nothing_there, ordered-all}
 use Rattle.gts_generate.proofs.ReceiptLemmas.{take_outcome}
+use Rattle.std.proofs.lemmas.Grind.{common_steps}
 
 -- ---- accepted
 
 accepted-heard : (d : Directory) (s : State) (c : ℕ) (kind : Kind) (message : List ℕ) (o : Outcome)
     → (after_heard d s c kind message o).count ≡ s.count + count_by is_accepted (o ∷ [])
 accepted-heard d s c kind message (Accepted p n) = refl
-accepted-heard d s c kind message (Duplicate p) = omega arith
-accepted-heard d s c kind message (Asked f m) = omega arith
-accepted-heard d s c kind message (Refused r) = omega arith
-accepted-heard d s c kind message (LineLost f) = omega arith
-accepted-heard d s c kind message (Resend i) = omega arith
-accepted-heard d s c kind message (Draw i) = omega arith
-accepted-heard d s c kind message Nothing = omega arith
+accepted-heard d s c kind message _ = omega arith
 
 accepted-take : (s : State) (c : ℕ) (ch : Choice) → (after_take s c ch).count ≡ s.count + count_by is_accepted (take_outcome ch ∷ [])
 accepted-take s c (Repeats i) = omega arith
@@ -34,9 +29,7 @@ accepted-event d s (Taken c) = accepted-take s c (choice d s c)
 accepted-entry : (d : Directory) (s : State) (entry : Entry) → (after_entry d s entry).count ≡ s.count + count_by is_accepted (outcome_of d s entry)
 accepted-entry d s (Done event) = accepted-event d s event
 accepted-entry d s (Unsaid event) = accepted-event d s event
-accepted-entry d s (Idle event fault) = omega arith
-accepted-entry d s (Doubt events) = omega arith
-accepted-entry d s Restarted = omega arith
+accepted-entry d s _ = omega arith
 
 pub accepted-counted : (d : Directory) (s : State) (entries : List Entry)
     → (after_all d s entries).count ≡ s.count + count_by is_accepted (outcomes d s entries)
@@ -63,8 +56,7 @@ drawn_in qs = sum_by draws qs
 -- what is routed or owed draws nothing
 drawn-map : (f : CircuitState → CircuitState) (qs : List CircuitState) → ((q : CircuitState) → draws (f q) ≡ draws q) → drawn_in (map f qs) ≡ drawn_in qs
 drawn-map f [] same = refl
-drawn-map f (q ∷ qs) same =
-    omega (arith, sum_by-cons draws (f q) (map f qs), sum_by-cons draws q qs, same q, drawn-map f qs same)
+drawn-map f (q ∷ qs) same = grind (arith, common_steps, sum_by-cons)
 
 drawn-restarted : (rows : List Circuit) (qs : List CircuitState) → drawn_in (all_owed_last rows qs) ≡ drawn_in qs
 drawn-restarted [] qs = drawn-map (owed_last 0) qs (λ q. refl)
@@ -97,10 +89,7 @@ drawn-set : (qs : List CircuitState) (c more : ℕ) (q : CircuitState) → draws
 drawn-set qs c more q e within = omega (arith, sum_by-set draws qs c q idle within)
 
 drawn-kept : (qs : List CircuitState) (c : ℕ) (q : CircuitState) → draws q ≡ draws (get_or qs c idle) → drawn_in (set qs c q) ≡ drawn_in qs
-drawn-kept qs c q e = elim (cases_lt c (length qs)) [
-  | inl within ↦ omega (arith, sum_by-set draws qs c q idle within)
-  | inr beyond ↦ ap drawn_in (set_past qs c q beyond)
-]
+drawn-kept qs c q e = grind (arith, common_steps, cases_lt, sum_by-set, set_past)
 
 -- what is heard is no take
 abbrev pub IsHeard : Outcome → Type 0
@@ -110,11 +99,7 @@ IsHeard Nothing = ⊥
 IsHeard _ = Unit {0}
 
 heard-answer : (owed : ℕ) (ps : List (Option ℕ)) → IsHeard (answer owed ps)
-heard-answer owed ps = go (nat_lt most_owed (owed + length (found ps)))
-  where
-    go : (b : Bool) → IsHeard (cond b (Refused Many) (Asked (length (found ps)) (count_by is_none ps)))
-    go true = tt
-    go false = tt
+heard-answer owed ps = grind (arith, common_steps)
 
 heard-request : (d : Directory) (s : State) (c : ℕ) (r : Result (List Item) RequestField) → IsHeard (answer_to d s c r)
 heard-request d s c (Err field) = tt
@@ -125,14 +110,7 @@ heard-new p n None = tt
 heard-new p n (Some b) = tt
 
 heard-verdict : (d : Directory) (s : State) (c : ℕ) (parts : MessageParts) → IsHeard (verdict d s c parts)
-heard-verdict d s c parts = go (is_request d parts.heading)
-  where
-    new : Outcome
-    new = elim (duplicate d s parts.heading parts.text) [ Some b ↦ Duplicate b.position | None ↦ Accepted s.count (length (named d c parts.heading)) ]
-
-    go : (b : Bool) → IsHeard (cond b (answer_to d s c (request_at parts.text)) new)
-    go true = heard-request d s c (request_at parts.text)
-    go false = heard-new s.count (length (named d c parts.heading)) (duplicate d s parts.heading parts.text)
+heard-verdict d s c parts = grind (arith, common_steps, heard-request, heard-new)
 
 heard-read : (d : Directory) (s : State) (c : ℕ) (r : Result MessageParts MessageField)
     → IsHeard (elim r [ Err field ↦ Refused (Message field) | Ok parts ↦ verdict d s c parts ])
@@ -144,31 +122,19 @@ drawn-heard : (d : Directory) (s : State) (c : ℕ) (kind : Kind) (message : Lis
 drawn-heard d s c kind message (Accepted p n) is =
     omega (arith, drawn-routed (named d c (heading_of_message message)) s.count 0 s.circuits)
 drawn-heard d s c kind message (Duplicate p) is = omega arith
-drawn-heard d s c kind message (Asked f m) is =
-    let q : CircuitState = on_circuit s c in
-    omega (arith, drawn-kept s.circuits c (record q { owed = q.owed ++ found (places d s c (items_of message)) }) refl)
+drawn-heard d s c kind message (Asked f m) is = grind (arith, common_steps, drawn-kept)
 drawn-heard d s c kind message (Refused r) is = omega arith
 drawn-heard d s c kind message (LineLost f) is = omega arith
-drawn-heard d s c kind message (Resend i) is = absurd is
-drawn-heard d s c kind message (Draw i) is = absurd is
-drawn-heard d s c kind message Nothing is = absurd is
+drawn-heard d s c kind message _ is = absurd is
 
 -- nothing is given beyond the last circuit
 pub nothing-beyond : (d : Directory) (s : State) (c i p : ℕ) → length s.circuits ≤ c → choice d s c ≡ Draws i p → ⊥
-nothing-beyond d s c i p beyond e =
-    let none : on_circuit s c ≡ idle = get_or_past s.circuits c idle beyond in
-    let same : choice d s c ≡ Nothing_waits = nothing_there d s c (ap (λ (q : CircuitState). q.owed) none) (ap waiting none) in
-    cc
+nothing-beyond d s c i p beyond e = grind (arith, common_steps, get_or_past, nothing_there)
 
 drawn-take : (d : Directory) (s : State) (c : ℕ) (ch : Choice) → choice d s c ≡ ch
     → drawn_in (after_take s c ch).circuits ≡ drawn_in s.circuits + count_by is_draw (take_outcome ch ∷ [])
 drawn-take d s c (Repeats i) e = omega (arith, drawn-kept s.circuits c (with_repeated (on_circuit s c)) refl)
-drawn-take d s c (Draws i p) e =
-    let q : CircuitState = on_circuit s c in
-    elim (cases_lt c (length s.circuits)) [
-      | inl within ↦ omega (arith, drawn-set s.circuits c 1 (with_drawn p q) (omega (arith, length-append q.taken (p ∷ []))) within)
-      | inr beyond ↦ absurd (nothing-beyond d s c i p beyond e)
-    ]
+drawn-take d s c (Draws i p) e = grind (arith, common_steps, cases_lt, drawn-set, length-append, nothing-beyond)
 drawn-take d s c Nothing_waits e = omega arith
 
 pub heard-event : (d : Directory) (s : State) (c : ℕ) (kind : Kind) (message : List ℕ) → IsHeard (outcome d s (Heard c kind message))
@@ -176,8 +142,7 @@ heard-event d s c kind message = heard-read d s c (split_at message)
 
 drawn-event : (d : Directory) (s : State) (event : Event)
     → drawn_in (after d s event).circuits ≡ drawn_in s.circuits + count_by is_draw (outcome d s event ∷ [])
-drawn-event d s (Heard c kind message) =
-    drawn-heard d s c kind message (outcome d s (Heard c kind message)) (heard-event d s c kind message)
+drawn-event d s (Heard c kind message) = grind (arith, common_steps, drawn-heard, heard-event)
 drawn-event d s (Lost c field) = omega arith
 drawn-event d s (Taken c) = drawn-take d s c (choice d s c) refl
 
@@ -213,13 +178,7 @@ needed (row ∷ rows) (q ∷ qs) e =
 
 pub drawn-counted : (d : Directory) (s : State) (entries : List Entry) → keeps_one d ≡ true → IsOrdered d s
     → draws_in (need d (after_all d s entries)) ≡ draws_in (need d s) + count_by is_draw (outcomes d s entries)
-drawn-counted d s entries one ordered =
-    omega (
-      arith,
-      needed d.circuits s.circuits ordered.circuits,
-      needed d.circuits (after_all d s entries).circuits (ordered-all d s entries one ordered).circuits,
-      drawn-all d s entries,
-    )
+drawn-counted d s entries one ordered = grind (arith, common_steps, needed, ordered-all, drawn-all)
 
 -- behind a state of which nothing was drawn
 pub drawn-from-nothing : (d : Directory) (s : State) (entries : List Entry) → keeps_one d ≡ true → IsOrdered d s → draws_in (need d s) ≡ 0

@@ -7,6 +7,7 @@ use Rattle.gts_generate.proofs.CountLemmas.{accepted-from-nothing, drawn-from-no
 use Rattle.gts_generate.proofs.EndLemmas.{frames-counted}
 use Rattle.gts_generate.proofs.FedLemmas.{day-ends}
 use Rattle.gts_generate.proofs.LawLemmas.{are-steps}
+use Rattle.std.proofs.lemmas.Grind.{common_steps}
 
 ordered : IsOrdered directory start
 ordered = ordered-begun directory (nothing directory) (nothing-sound directory)
@@ -24,8 +25,7 @@ pub draws-on : (count : ℕ) → draws_in (need directory (state_after (history 
 draws-on count = drawn-from-nothing directory start (history count) refl ordered refl
 
 frames-on : (count : ℕ) → frames_in (frames_said (outside_of count)) ≡ outcomes_on count is_draw + outcomes_on count is_resend
-frames-on count =
-    frames-counted directory start (history count) refl (omega arith) (here count) (day-ends directory start count) held refl
+frames-on count = grind (arith, common_steps, frames-counted, here, day-ends, held)
 
 pub resends-on : (count : ℕ) → frames_in (frames_said (outside_of count)) - draws_in (need directory (state_after (history count))) ≡ outcomes_on count is_resend
 resends-on count = omega (arith, frames-on count, draws-on count)

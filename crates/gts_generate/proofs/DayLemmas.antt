@@ -3,7 +3,8 @@ use Rattle.std.proofs.Common.{◌≡◌, ℕ, suc, zero, ◌+◌, ◌-◌, ◌*�
 use Rattle.std.proofs.lemmas.List.{append-nil, take-append-drop, take_at, length-append, length-take, length-drop}
 use Rattle.std.proofs.lemmas.List.FromFn.{map-range_with_len_more}
 use Rattle.std.proofs.lemmas.Grind.{flat_map-append}
-use Rattle.gts_generate.specs.Cited.{Drain, EndHead, Step, capture, capture_from, dec, drains, ending, head_text, pieces_from, pieces_left, range_with_len, step_text, steps_of, turn}
+use Rattle.gts_generate.specs.Cited.{Drain, Step, capture, capture_from, dec, ending, pieces_from, pieces_left, range_with_len, step_text, steps_of, turn}
+use Rattle.std.proofs.lemmas.Grind.{common_steps}
 
 -- one more circuit is drained
 pub drains-more : (c : ℕ) → flat_map step_text (map Drain (range_with_len 0 (c + 1)))
@@ -26,22 +27,15 @@ drained bytes c here = ap length here ∙ drained-size 0 c
 -- the steps of messages are those of each, one after another
 turns : (numbers : List ℕ) → flat_map step_text (flat_map steps_of numbers) ≡ flat_map turn numbers
 turns [] = refl
-turns (i ∷ numbers) =
-    flat_map-append step_text (steps_of i) (flat_map steps_of numbers) ∙ ap (λ (l : List ℕ). turn i ++ l) (turns numbers)
+turns (i ∷ numbers) = grind (arith, common_steps, flat_map-append, turns numbers)
 
 -- a capture is its pieces from the first message on
 pub capture-pieces : (count : ℕ) → capture count ≡ capture_from 0 count
-capture-pieces count =
-    let front = flat_map steps_of (range_with_len 0 count) in
-    ap (λ (l : List ℕ). l ++ head_text EndHead)
-    (flat_map-append step_text front drains ∙ ap (λ (l : List ℕ). l ++ flat_map step_text drains) (turns (range_with_len 0 count)))
-    ∙ append_assoc (flat_map turn (range_with_len 0 count)) (flat_map step_text drains) (head_text EndHead)
+capture-pieces count = grind (arith, common_steps, flat_map-append, turns)
 
 -- before the first piece
 pub pieces-all : (count : ℕ) → pieces_left 0 count ≡ capture count
-pieces-all count =
-    let more : count + 1 - 0 ≡ suc count = omega arith in
-    ap (λ (n : ℕ). pieces_from 0 n) more ∙ sym (capture-pieces count)
+pieces-all count = grind (arith, common_steps, capture-pieces)
 
 -- the piece of a message, and what comes behind it
 pub pieces-more : (next count : ℕ) → next < count → pieces_left next count ≡ turn next ++ pieces_left (next + 1) count

@@ -1,6 +1,6 @@
 -- Each take that gives something says one frame, where each bulletin has one end.
-use Rattle.std.proofs.Common.{◌≡◌, ℕ, suc, zero, ◌+◌, ◌-◌, ◌<◌, ◌≤◌, Bool, true, false, cond, ◌&&◌, ◌==◌, nat_le, nat_lt, Option, Some, None, List, [], ◌∷◌, ◌++◌, length, get_or, map, inl, inr, refl, sym, ap, subst, ◌∙◌, arith, count_by}
-use Rattle.gts_generate.specs.Cited.{Accepted, Asked, Bulletin, Choice, Circuit, CircuitState, Directory, Done, Doubt, Draw, Draws, Duplicate, ETX, Entry, Event, HasFrame, Heard, Idle, IsGap, IsHeld, IsMessage, IsOrdered, Kind, LineLost, Lost, Nothing, Nothing_waits, Outcome, Refused, Repeats, Resend, Restarted, State, Taken, Unsaid, WasRead, after, after_entry, after_heard, after_take, bulletin_at, choice, choice_of, circuit_need, dec, digits_on, drawn, draws, find, frames_in, frames_said, heading_of_message, idle, is_circuit, is_draw, is_here, is_kept, is_resend, keeps_one, kept_on, last_of, list_all, message_of, next, no_heading, number_in, numbered_frame, on, on_circuit, outcome, outcome_of, outcomes, owes_kept, receipt_text, said, spoken, spoken_of, with_drawn, with_repeated, zip}
+use Rattle.std.proofs.Common.{◌≡◌, ℕ, suc, zero, ◌+◌, ◌<◌, ◌≤◌, Bool, true, false, cond, ◌==◌, nat_le, nat_lt, Option, Some, None, List, [], ◌∷◌, ◌++◌, length, get_or, map, inl, inr, refl, sym, ap, subst, ◌∙◌, arith, count_by}
+use Rattle.gts_generate.specs.Cited.{Accepted, Asked, Bulletin, Choice, Circuit, CircuitState, Directory, Done, Doubt, Draw, Draws, Duplicate, ETX, Entry, Event, HasFrame, Heard, Idle, IsGap, IsHeld, IsMessage, IsOrdered, Kind, LineLost, Lost, Nothing, Nothing_waits, Outcome, Refused, Repeats, Resend, Restarted, State, Taken, Unsaid, WasRead, after, after_entry, after_heard, after_take, bulletin_at, choice, choice_of, circuit_need, dec, digits_on, draws, find, frames_in, frames_said, idle, is_circuit, is_draw, is_here, is_kept, is_resend, keeps_one, kept_on, list_all, next, numbered_frame, on, on_circuit, outcome, outcome_of, outcomes, owes_kept, said, spoken, spoken_of, with_drawn, with_repeated, zip}
 use Rattle.gts_event.specs.Said.{frame_of_draw}
 use Rattle.gts_event.specs.History.{body_of}
 use Rattle.std.proofs.lemmas.Bool.{eqb-true, eq-eqb, le-leb, lt-ltb, ltb-true, and_parts, and_from}
@@ -14,6 +14,7 @@ use Rattle.gts_generate.proofs.ByteLemmas.{lacks, lacks-append, lacks-dec}
 use Rattle.gts_generate.proofs.ReceiptLemmas.{take_outcome, said_take}
 use Rattle.gts_generate.proofs.CountLemmas.{IsHeard, heard-event}
 use Rattle.gts_generate.proofs.FramesLemmas.{frames-append, frames-where, ends-append, ends-message, ends-frame}
+use Rattle.std.proofs.lemmas.Grind.{common_steps}
 
 -- a bulletin's body has one end
 abbrev pub one_end : Bulletin → Bool
@@ -47,9 +48,7 @@ ends-read d message was =
 
 -- one more is accepted, with one end
 joins : (bs : List Bulletin) (b : Bulletin) → list_all one_end bs ≡ true → frames_in b.body ≡ 1 → list_all one_end (bs ++ b ∷ []) ≡ true
-joins bs b all one =
-    list_all-append one_end bs (b ∷ [])
-    ∙ and_from (list_all one_end bs) (one_end b && true) all (and_from (one_end b) true (eq-eqb (frames_in b.body) 1 one) refl)
+joins bs b all one = grind (arith, common_steps, list_all-append, and_from, eq-eqb)
 
 ends-heard : (d : Directory) (s : State) (c : ℕ) (kind : Kind) (message : List ℕ) (o : Outcome) → outcome d s (Heard c kind message) ≡ o
     → (frames_in message == 1) ≡ true → list_all one_end s.accepted ≡ true
@@ -58,13 +57,7 @@ ends-heard d s c kind message (Accepted p n) e one all =
     let was : WasRead d message = was_read d s c kind message p n e in
     joins s.accepted (record { position = s.count; from = c; kind = kind; body = body_of message }) all
     (sym (ends-read d message was) ∙ eqb-true (frames_in message) 1 one)
-ends-heard d s c kind message (Duplicate p) e one all = all
-ends-heard d s c kind message (Asked f m) e one all = all
-ends-heard d s c kind message (Refused r) e one all = all
-ends-heard d s c kind message (LineLost f) e one all = all
-ends-heard d s c kind message (Resend i) e one all = all
-ends-heard d s c kind message (Draw i) e one all = all
-ends-heard d s c kind message Nothing e one all = all
+ends-heard d s c kind message _ e one all = all
 
 ends-take : (s : State) (c : ℕ) (ch : Choice) → list_all one_end s.accepted ≡ true → list_all one_end (after_take s c ch).accepted ≡ true
 ends-take s c (Repeats i) all = all
@@ -81,9 +74,7 @@ ends-entry : (d : Directory) (s : State) (entry : Entry) → has_one_end entry �
     → list_all one_end (after_entry d s entry).accepted ≡ true
 ends-entry d s (Done event) one all = ends-event d s event one all
 ends-entry d s (Unsaid event) one all = ends-event d s event one all
-ends-entry d s (Idle event fault) one all = all
-ends-entry d s (Doubt events) one all = all
-ends-entry d s Restarted one all = all
+ends-entry d s _ one all = all
 
 -- ---- the frame of a draw
 
@@ -104,17 +95,10 @@ found-passes test pass (x ∷ bs) b e all =
     here false x rest e first more = more e
 
 ends-numbered : (digits index : ℕ) (b : Bulletin) → frames_in (numbered_frame digits index b) ≡ frames_in b.body
-ends-numbered digits index b =
-    let number : List ℕ = dec digits (number_in digits index) in
-    ends-frame b.kind (message_of number b.body) ∙ ends-message number b.body (lacks-dec ETX digits (number_in digits index) (omega arith))
+ends-numbered digits index b = grind (arith, common_steps, ends-frame, ends-message, lacks-dec)
 
 frame_of_draw-ends : (d : Directory) (s : State) (c i : ℕ) → HasFrame s c i → list_all one_end s.accepted ≡ true → frames_in (frame_of_draw d s c i) ≡ 1
-frame_of_draw-ends d s c i there all =
-    let draw : ℕ × ℕ = there.0 in
-    let b : Bulletin = there.1 in
-    let is : frame_of_draw d s c i ≡ numbered_frame (digits_on d c) i b = ap (of_draw d s c i) there.2 ∙ ap (of_bulletin (digits_on d c) i) there.3 in
-    let one : one_end b ≡ true = found-passes (λ (x : Bulletin). x.position == draw.1) one_end s.accepted b there.3 all in
-    ap frames_in is ∙ ends-numbered (digits_on d c) i b ∙ eqb-true (frames_in b.body) 1 one
+frame_of_draw-ends d s c i there all = grind (arith, common_steps, found-passes, ends-numbered, eqb-true)
 
 -- ---- what is drawn or owed is kept
 
@@ -127,8 +111,7 @@ owed-at : (rows : List Circuit) (qs : List CircuitState) (c : ℕ) → length qs
 owed-at [] [] c same within all = absurd (omega arith)
 owed-at [] (q ∷ qs) c same within all = absurd (omega arith)
 owed-at (row ∷ rows) [] c same within all = absurd (omega arith)
-owed-at (row ∷ rows) (q ∷ qs) zero same within all =
-    (and_parts (owes_on row q) (list_all owes_kept (map (λ r. circuit_need r.0.kept r.1) (zip rows qs))) all).0
+owed-at (row ∷ rows) (q ∷ qs) zero same within all = grind (arith, common_steps, and_parts)
 owed-at (row ∷ rows) (q ∷ qs) (suc c) same within all =
     owed-at rows qs c (omega arith) (omega arith)
     (and_parts (owes_on row q) (list_all owes_kept (map (λ r. circuit_need r.0.kept r.1) (zip rows qs))) all).1
@@ -138,22 +121,11 @@ first-owed : (k i : ℕ) (q : CircuitState) (os : List ℕ) (r : Option ℕ) (n 
     → choice_of os r n ≡ Repeats i → is_kept (circuit_need k q) i ≡ true
 first-owed k i q [] None n all e = absurd (cc)
 first-owed k i q [] (Some p) n all e = absurd (cc)
-first-owed k i q (o ∷ os) r n all e =
-    let same : o ≡ i = cc in
-    subst (λ (j : ℕ). is_kept (circuit_need k q) j ≡ true) same
-    (and_parts (is_kept (circuit_need k q) o) (list_all (is_kept (circuit_need k q)) os) all).0
+first-owed k i q (o ∷ os) r n all e = grind (arith, common_steps, and_parts)
 
 -- a new draw is kept where one is
 new-kept : (k p : ℕ) (q : CircuitState) → 0 < k → is_kept (circuit_need k (with_drawn p q)) (draws q) ≡ true
-new-kept k p q some =
-    let all : List (ℕ × ℕ) = drawn (with_drawn p q) in
-    let count : length all ≡ length q.taken + 1 = length-enumerate_from q.earlier (q.taken ++ p ∷ []) ∙ length-append q.taken (p ∷ []) in
-    let kept : List ℕ = map (λ (draw : ℕ × ℕ). draw.1) (last_of k all) in
-    let size : length kept ≡ length all - (length all - k) = length-map (last_of k all) (λ (draw : ℕ × ℕ). draw.1) ∙ length-drop (length all - k) all in
-    let more : draws (with_drawn p q) ≡ draws q + 1 = omega (arith, length-append q.taken (p ∷ [])) in
-    and_from (nat_le (draws (with_drawn p q)) (draws q + length kept)) (nat_lt (draws q) (draws (with_drawn p q)))
-    (le-leb (draws (with_drawn p q)) (draws q + length kept) (omega arith))
-    (lt-ltb (draws q) (draws (with_drawn p q)) (omega arith))
+new-kept k p q some = grind (arith, common_steps, length-enumerate_from, length-append, length-map, length-drop, and_from, le-leb, lt-ltb)
 
 -- ---- what a take says
 
@@ -163,9 +135,7 @@ circuit-here c low = and_from (nat_le 1 (c + 1)) (nat_le (c + 1) 8) (le-leb 1 (c
 -- on a circuit of the directory the line of a kept draw is one frame
 one-frame : (d : Directory) (s : State) (c i : ℕ) → length d.circuits ≤ 8 → c < length d.circuits → IsHeld d s → list_all one_end s.accepted ≡ true
     → is_kept (circuit_need (kept_on d c) (on_circuit s c)) i ≡ true → frames_in (frames_said (on (c + 1) (frame_of_draw d s c i))) ≡ 1
-one-frame d s c i few here held all kept =
-    ap frames_in (frames-where true (c + 1) (frame_of_draw d s c i) (circuit-here c (omega arith)))
-    ∙ frame_of_draw-ends d s c i (kept-frame_of_draw d s c i here held kept) all
+one-frame d s c i few here held all kept = grind (arith, common_steps, frames-where, circuit-here, frame_of_draw-ends, kept-frame_of_draw)
 
 -- the index that was repeated or drawn is kept behind the take
 kept-behind : (d : Directory) (s : State) (c i : ℕ) (q : CircuitState) → is_kept (circuit_need (kept_on d c) q) i ≡ true → on_circuit s c ≡ q
@@ -202,19 +172,13 @@ none-heard (Duplicate p) is = refl
 none-heard (Asked f m) is = refl
 none-heard (Refused r) is = refl
 none-heard (LineLost f) is = refl
-none-heard (Resend i) is = absurd is
-none-heard (Draw i) is = absurd is
-none-heard Nothing is = absurd is
+none-heard _ is = absurd is
 
 frames-event : (d : Directory) (s : State) (event : Event) → keeps_one d ≡ true → length d.circuits ≤ 8 → is_here d (Done event) ≡ true
     → hears_one_end event ≡ true → IsHeld d s → list_all one_end s.accepted ≡ true
     → frames_in (frames_said (spoken d s event)) ≡ count_by is_draw (outcome d s event ∷ []) + count_by is_resend (outcome d s event ∷ [])
-frames-event d s (Heard c kind message) one few here end held all =
-    let o : Outcome = outcome d s (Heard c kind message) in
-    ap frames_in (frames-where false 0 (receipt_text c o (heading_of_message message)) refl)
-    ∙ none-heard o (heard-event d s c kind message)
-frames-event d s (Lost c field) one few here end held all =
-    ap frames_in (frames-where false 0 (receipt_text c (LineLost field) no_heading) refl)
+frames-event d s (Heard c kind message) one few here end held all = grind (arith, common_steps, frames-where, none-heard, heard-event)
+frames-event d s (Lost c field) one few here end held all = grind (arith, common_steps, frames-where)
 frames-event d s (Taken c) one few here end held all =
     frames-take d s c (choice d s c) refl one few (ltb-true c (length d.circuits) here) held.ordered
     (held-all d s (Done (Taken c) ∷ []) one (and_from (nat_lt c (length d.circuits)) true here refl) held) all
@@ -224,9 +188,7 @@ frames-entry : (d : Directory) (s : State) (entry : Entry) → keeps_one d ≡ t
     → frames_in (frames_said (spoken_of d s entry)) ≡ count_by is_draw (outcome_of d s entry) + count_by is_resend (outcome_of d s entry)
 frames-entry d s (Done event) one few here end held all = frames-event d s event one few here end held all
 frames-entry d s (Unsaid event) one few here end held all = frames-event d s event one few here end held all
-frames-entry d s (Idle event fault) one few here end held all = refl
-frames-entry d s (Doubt events) one few here end held all = refl
-frames-entry d s Restarted one few here end held all = refl
+frames-entry d s _ one few here end held all = refl
 
 -- of a history in which each message has one end as many frames are said as were drawn and repeated
 pub frames-counted : (d : Directory) (s : State) (entries : List Entry) → keeps_one d ≡ true → length d.circuits ≤ 8

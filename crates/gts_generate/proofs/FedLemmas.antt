@@ -1,6 +1,6 @@
 -- The messages of a day: each is heard as it stands, and has one end.
 use Rattle.std.proofs.Common.{◌≡◌, ◌≢◌, ℕ, suc, zero, ◌+◌, ◌-◌, ◌/◌, ◌%◌, ◌≤◌, Bool, true, false, ◌==◌, None, List, [], ◌∷◌, ◌++◌, length, drop, get_or, map, inl, inr, refl, sym, ap, subst, ◌∙◌, append_assoc, arith, codes, flat_map, replicate, if◌then◌else◌}
-use Rattle.gts_generate.specs.Cited.{AllByRecursion, An, Circuit, Compact, Connections, Directory, Drain, EOL, ETX, EndsWithEtx, Entry, Event, Feed, Frame, HeadingFields, IsFramed, IsPiece, KeepAlive, Part, Piece, Reopen, Rest, Restart, State, Step, Take, Taken, after_all, after_step, all_done, body, body_of, connection, dec, drains, entries, entries_from, entries_of_step, events_added, events_of, frame, frames_in, heading_at, heading_text, list_all, message, message_end, no_bytes, on_circuit, piece_text, range_with_len, report, request, steps, steps_of, waiting}
+use Rattle.gts_generate.specs.Cited.{AllByRecursion, An, Circuit, Compact, Connections, Directory, Drain, EOL, ETX, EndsWithEtx, Entry, Event, Feed, Frame, HeadingFields, IsFramed, IsPiece, KeepAlive, Part, Piece, Reopen, Rest, Restart, State, Step, Take, Taken, after_all, after_step, all_done, body, body_of, connection, dec, drains, entries, entries_from, entries_of_step, events_added, events_of, frame, frames_in, heading_at, heading_text, list_all, message, no_bytes, on_circuit, piece_text, range_with_len, report, request, steps, steps_of, waiting}
 use Rattle.std.proofs.Math.ListN.{set}
 use Rattle.std.proofs.lemmas.Bool.{eqb-true, eq-eqb, cases_lt, and_parts, and_from}
 use Rattle.std.proofs.lemmas.List.{append-nil, set_past, get_or-set_same, get_or-set_other}
@@ -11,6 +11,7 @@ use Rattle.gts_connection.proofs.LawLemmas.{connection-unique}
 use Rattle.gts_generate.proofs.ByteLemmas.{lacks, one_more, lacks-append, lacks-dec, lacks-heading_text}
 use Rattle.gts_generate.proofs.FramesLemmas.{ends-append, ends-message, no-end}
 use Rattle.gts_generate.proofs.EndLemmas.{hears_one_end, has_one_end}
+use Rattle.std.proofs.lemmas.Grind.{common_steps}
 
 -- ---- what comes on a connection
 
@@ -47,8 +48,7 @@ heard c pieces each =
 
 heard-ends : (c : ℕ) (pieces : List Piece) → AllByRecursion HasOneEnd pieces → list_all hears_one_end (events_of c pieces) ≡ true
 heard-ends c [] each = refl
-heard-ends c (Frame kind message ∷ pieces) each =
-    and_from (frames_in message == 1) (list_all hears_one_end (events_of c pieces)) (eq-eqb (frames_in message) 1 each.0.1) (heard-ends c pieces each.1)
+heard-ends c (Frame kind message ∷ pieces) each = grind (arith, common_steps, and_from, hears_one_end, eq-eqb, heard-ends c pieces each.1)
 heard-ends c (KeepAlive kind ∷ pieces) each = heard-ends c pieces each.1
 
 all-drop : (n : ℕ) (events : List Event) → list_all hears_one_end events ≡ true → list_all hears_one_end (drop n events) ≡ true
@@ -117,9 +117,7 @@ after-fed d bs (Feed c bytes) is fed =
     (subst (λ (l : List ℕ). AreFrames (before ++ l)) (sym is.3) (one-more before is.0 (fed c) is.1 is.2)) fed
 after-fed d bs (Take c) is fed = fed
 after-fed d bs (Drain c) is fed = fed
-after-fed d bs (Reopen c) is fed = absurd is
-after-fed d bs Restart is fed = absurd is
-after-fed d bs Compact is fed = absurd is
+after-fed d bs _ is fed = absurd is
 
 takes-end : (n c : ℕ) → list_all has_one_end (all_done (replicate n (Taken c))) ≡ true
 takes-end zero c = refl
@@ -132,9 +130,7 @@ step-ends s bs (Feed c bytes) is fed =
     (subst (λ (l : List ℕ). AreFrames (before ++ l)) (sym is.3) (one-more before is.0 (fed c) is.1 is.2)))
 step-ends s bs (Take c) is fed = refl
 step-ends s bs (Drain c) is fed = takes-end (length (on_circuit s c).owed + length (waiting (on_circuit s c)) + 1) c
-step-ends s bs (Reopen c) is fed = absurd is
-step-ends s bs Restart is fed = absurd is
-step-ends s bs Compact is fed = absurd is
+step-ends s bs _ is fed = absurd is
 
 entries-end : (d : Directory) (s : State) (bs : Connections) (steps : List Step) → AllByRecursion IsFed steps → AllFed bs
     → list_all has_one_end (entries_from d s bs steps) ≡ true
@@ -170,39 +166,20 @@ ends-with-etx heading text =
 -- a body has one end where its heading and its text have none
 body-end : (heading : HeadingFields) (text : List ℕ) → lacks ETX (heading_text heading) ≡ true → lacks ETX text ≡ true
     → frames_in (body_of heading text) ≡ 1
-body-end heading text first rest =
-    let front : List ℕ = heading_text heading ++ EOL in
-    let last : frames_in message_end ≡ 1 = refl in
-    let line_end : frames_in EOL ≡ 0 = refl in
-    omega (
-      arith,
-      ends-append (front ++ text) message_end,
-      ends-append front text,
-      ends-append (heading_text heading) EOL,
-      no-end (heading_text heading) first,
-      no-end text rest,
-    )
+body-end heading text first rest = grind (arith, common_steps, ends-append, no-end)
 
 lacks-day_heading : (i : ℕ) (tt_of aa : List ℕ) (ii : ℕ) → lacks ETX tt_of ≡ true → lacks ETX aa ≡ true
     → lacks ETX (heading_text (heading_at i tt_of aa ii)) ≡ true
-lacks-day_heading i tt_of aa ii first second =
-    lacks-heading_text ETX (heading_at i tt_of aa ii) (omega arith) first second refl refl
+lacks-day_heading i tt_of aa ii first second = grind (arith, common_steps, lacks-heading_text)
 
 letter : (n : ℕ) → lacks ETX (83 ∷ (65 + n) ∷ []) ≡ true
 letter n = one_more ETX 83 ((65 + n) ∷ []) (λ e. absurd (omega arith)) (one_more ETX (65 + n) [] (λ e. absurd (omega arith)) refl)
 
 report-end : (i : ℕ) → frames_in (report i) ≡ 1
-report-end i =
-    let text : List ℕ = codes "REPORT " ++ dec 6 i ++ codes "=" in
-    let lacking : lacks ETX text ≡ true =
-    lacks-append ETX (codes "REPORT " ++ dec 6 i) (codes "=") (lacks-append ETX (codes "REPORT ") (dec 6 i) refl (lacks-dec ETX 6 i (omega arith))) refl in
-    body-end (heading_at i (83 ∷ (65 + i % 26) ∷ []) (codes "VG") (i % 60)) text
-    (lacks-day_heading i (83 ∷ (65 + i % 26) ∷ []) (codes "VG") (i % 60) (letter (i % 26)) refl) lacking
+report-end i = grind (arith, common_steps, lacks, lacks-append, lacks-dec, body-end, lacks-day_heading, letter)
 
 request-end : (i : ℕ) → frames_in (request i) ≡ 1
-request-end i =
-    body-end (heading_at i (codes "BM") (codes "RR") 1) (codes "AAAA" ++ EOL ++ codes "SQN 001=")
-    (lacks-day_heading i (codes "BM") (codes "RR") 1 refl refl) refl
+request-end i = grind (arith, common_steps, body-end, lacks-day_heading)
 
 -- what each body has
 pub record IsDayBody (bytes : List ℕ) : Type 0 where
@@ -211,18 +188,10 @@ pub record IsDayBody (bytes : List ℕ) : Type 0 where
   pub one : frames_in bytes ≡ 1
 
 report-body : (i : ℕ) → IsDayBody (report i)
-report-body i = record {
-  short = omega (arith, report-size i);
-  ends = ends-with-etx (heading_at i (83 ∷ (65 + i % 26) ∷ []) (codes "VG") (i % 60)) (codes "REPORT " ++ dec 6 i ++ codes "=");
-  one = report-end i;
-}
+report-body i = grind (arith, common_steps, report-size, ends-with-etx, report-end)
 
 request-body : (i : ℕ) → IsDayBody (request i)
-request-body i = record {
-  short = omega (arith, request-size i);
-  ends = ends-with-etx (heading_at i (codes "BM") (codes "RR") 1) (codes "AAAA" ++ EOL ++ codes "SQN 001=");
-  one = request-end i;
-}
+request-body i = grind (arith, common_steps, request-size, ends-with-etx, request-end)
 
 one-of : (asks again : Bool) (i j : ℕ) → IsDayBody (if asks then request i else if again then report j else report i)
 one-of true again i j = request-body i

@@ -1,16 +1,14 @@
 -- What was said on the circuits, piece by piece, and the frames in it.
-use Rattle.std.proofs.Common.{◌≡◌, ℕ, ◌+◌, Bool, true, false, cond, ◌==◌, List, [], ◌∷◌, ◌++◌, map, refl, ap, ◌∙◌, arith, filter, if◌then◌else◌, length}
+use Rattle.std.proofs.Common.{◌≡◌, ℕ, ◌+◌, Bool, true, false, cond, ◌==◌, List, [], ◌∷◌, ◌++◌, refl, ap, arith, if◌then◌else◌, length}
 use Rattle.std.proofs.lemmas.List.{map-append}
 use Rattle.std.proofs.lemmas.List.Elements.{filter-append}
 use Rattle.std.proofs.lemmas.List.Sums.{sum_by-append}
-use Rattle.gts_generate.specs.Cited.{An, Bi, EOL, ETX, Fx, Kind, Outside, SOH, dec, frame, frames_in, frames_said, is_circuit, letters, message_of, on}
+use Rattle.gts_generate.specs.Cited.{An, Bi, ETX, Fx, Kind, Outside, dec, frame, frames_in, frames_said, is_circuit, letters, message_of, on}
 use Rattle.gts_generate.proofs.ByteLemmas.{lacks, lacks-dec, counts-none}
+use Rattle.std.proofs.lemmas.Grind.{common_steps}
 
 pub frames-append : (xs ys : Outside) → frames_said (xs ++ ys) ≡ frames_said xs ++ frames_said ys
-frames-append xs ys =
-    let kept = λ (byte : ℕ × ℕ). is_circuit byte.0 in
-    ap (λ (o : Outside). map (λ byte. byte.1) o) (filter-append kept xs ys)
-    ∙ map-append (λ (byte : ℕ × ℕ). byte.1) (filter kept xs) (filter kept ys)
+frames-append xs ys = grind (arith, common_steps, filter-append, map-append)
 
 -- bytes on the channel of a circuit, and on another one
 frames-there : (channel : ℕ) (bytes : List ℕ) → is_circuit channel ≡ true → frames_said (on channel bytes) ≡ bytes
@@ -37,11 +35,7 @@ no-end bytes e = counts-none ETX bytes e
 
 -- a message has the ends of its body, where its number has none
 pub ends-message : (number body : List ℕ) → lacks ETX number ≡ true → frames_in (message_of number body) ≡ frames_in body
-ends-message number body e =
-    let start : List ℕ = SOH ∷ [] ++ EOL in
-    let none : frames_in start ≡ 0 = refl in
-    let line_end : frames_in EOL ≡ 0 = refl in
-    omega (arith, ends-append (start ++ number ++ EOL) body, ends-append (start ++ number) EOL, ends-append start number, no-end number e)
+ends-message number body e = grind (arith, common_steps, ends-append, no-end)
 
 -- and a frame those of its message
 pub ends-frame : (kind : Kind) (message : List ℕ) → frames_in (frame kind message) ≡ frames_in message

@@ -1,10 +1,11 @@
 -- The answers of the laws.
-use Rattle.std.proofs.Common.{◌≡◌, ℕ, ◌+◌, ◌*◌, ◌%◌, ◌≤◌, List, [], ◌∷◌, ◌++◌, length, refl, sym, ap, ◌∙◌, arith, flat_map}
+use Rattle.std.proofs.Common.{◌≡◌, ℕ, ◌+◌, ◌*◌, ◌≤◌, List, [], ◌∷◌, ◌++◌, length, refl, sym, ap, ◌∙◌, arith, flat_map}
 use Rattle.gts_generate.specs.Cited.{An, AreStepsOf, CaptureKind, Compact, Connections, Directory, Drain, Entry, Feed, FeedHead, IsHeadOf, IsWhole, Journaled, LONGEST_CAPTURE, Reopen, Restart, State, Step, Take, Traffic, after_all, after_step, capture, compactions, compactions_from, count_at, dec, directory, drains, ending, entries_of_step, frame, head_of, head_text, message, no_bytes, range_with_len, step_text, steps, steps_of, turn}
 use Rattle.std.proofs.lemmas.List.{append-nil, length-append}
 use Rattle.std.proofs.lemmas.List.FromFn.{length-range_with_len}
 use Rattle.gts_generate.proofs.DayLemmas.{capture-pieces}
 use Rattle.gts_generate.proofs.FedLemmas.{day-body}
+use Rattle.std.proofs.lemmas.Grind.{common_steps}
 
 -- a frame can stand in a feed
 pub frame-size : (i : ℕ) → length (frame An (message i)) ≤ 999999
@@ -13,8 +14,7 @@ frame-size i = omega (arith, (day-body i).short)
 
 -- the steps may stand in a capture of either kind
 pub are-steps : (kind : CaptureKind) (numbers : List ℕ) → AreStepsOf kind directory (flat_map steps_of numbers ++ drains)
-are-steps kind [] =
-    (omega arith, (omega arith, (omega arith, (omega arith, (omega arith, (omega arith, (omega arith, (omega arith, tt))))))))
+are-steps kind [] = grind (arith, common_steps)
 are-steps kind (i ∷ numbers) = ((omega arith, frame-size i), (omega arith, are-steps kind numbers))
 
 -- ---- a capture is short
@@ -32,9 +32,7 @@ unfolding dec
 take-size c = refl
 
 turn-size : (i : ℕ) → length (turn i) ≤ 1000016
-turn-size i =
-    let f : List ℕ = frame An (message i) in
-    three-sizes (head_text (FeedHead (i % 8) (length f))) f (step_text (Take ((3 * i) % 8)) ++ []) (feed-size (i % 8) (length f)) (frame-size i) (take-size ((3 * i) % 8))
+turn-size i = grind (arith, common_steps, three-sizes, feed-size, frame-size, take-size)
 
 turns-size : (numbers : List ℕ) → length (flat_map turn numbers) ≤ 1000016 * length numbers
 turns-size [] = omega arith
@@ -45,10 +43,7 @@ unfolding dec
 ending-size = refl
 
 capture-size : (count : ℕ) → count ≤ 100000 → length (capture count) ≤ LONGEST_CAPTURE
-capture-size count few =
-    let front : List ℕ = flat_map turn (range_with_len 0 count) in
-    let all : length (capture count) ≡ length (front ++ ending) = ap length (capture-pieces count) in
-    omega (arith, few, all, length-append front ending, ending-size, turns-size (range_with_len 0 count), length-range_with_len 0 count)
+capture-size count few = grind (arith, common_steps, capture-pieces, length-append, ending-size, turns-size, length-range_with_len)
 
 pub read-as-steps : (count : ℕ) → count ≤ 100000 → IsWhole directory (capture count) (steps count)
 read-as-steps count few = record {

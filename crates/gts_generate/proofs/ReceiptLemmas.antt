@@ -2,7 +2,7 @@
 use Rattle.std.proofs.Common.{◌≡◌, ℕ, ◌+◌, Bool, true, false, cond, not, ◌==◌, List, [], ◌∷◌, ◌++◌, refl, sym, ap, subst, ◌∙◌, arith, codes, count_by}
 use Rattle.std.proofs.lemmas.Bool.{and_parts}
 use Rattle.std.proofs.lemmas.List.Sums.{sum_by-append}
-use Rattle.gts_generate.specs.Cited.{Accepted, Asked, Choice, Directory, Done, Doubt, Draw, Draws, Duplicate, Entry, Event, FrameField, HeadingFields, Heard, Idle, IsHeading, IsMessage, Kind, LineLost, Lost, Many, Message, Nothing, Nothing_waits, Outcome, Outside, Refusal, Refused, Repeats, Request, Resend, Restarted, State, Taken, Unsaid, WasRead, after, after_entry, channel_bytes, choice, heading_of_message, heading_text, is_duplicate, is_granted, lines_from, lost_text, no_heading, on, outcome, outcome_of, outcomes, receipt_text, receipts_of, refusal_text, said, spoken, spoken_of, then_number}
+use Rattle.gts_generate.specs.Cited.{Accepted, Asked, Choice, Directory, Done, Doubt, Draw, Draws, Duplicate, Entry, Event, FrameField, HeadingFields, Heard, Idle, IsHeading, IsMessage, Kind, LineLost, Lost, Many, Message, Nothing, Nothing_waits, Outcome, Outside, Refusal, Refused, Repeats, Request, Resend, Restarted, State, Taken, Unsaid, WasRead, after, after_entry, channel_bytes, choice, heading_of_message, is_duplicate, is_granted, lines_from, lost_text, no_heading, on, outcome, outcome_of, outcomes, receipt_text, receipts_of, refusal_text, said, spoken, spoken_of, then_number}
 use Rattle.gts_event.specs.Said.{frame_of_draw}
 use Rattle.gts_message.proofs.LawLemmas.{split_takes}
 use Rattle.gts_traits.proofs.LawLemmas.{channel_bytes-append, channel_bytes-on, channel_bytes-on_other}
@@ -11,6 +11,7 @@ use Rattle.gts_heading.specs.declared.field.MessageField.TheVariants as field
 use Rattle.gts_request.specs.declared.fault.RequestField.TheVariants as asked
 use Rattle.gts_frame.specs.declared.lost.FrameField.TheVariants as lost
 use Rattle.gts_generate.proofs.ByteLemmas.{lacks, lacks-append, lacks-decimal, lacks-heading}
+use Rattle.std.proofs.lemmas.Grind.{common_steps}
 
 -- the rest of a line up to its LF
 passed : (b : Bool) (word bytes : List ℕ) → not b ≡ true → lines_from b word bytes ≡ lines_from false word bytes
@@ -56,33 +57,21 @@ HasHeading _ h = Unit {0}
 -- a receipt is one line: it is counted once where it begins with the word
 pub duplicate-lines : (c : ℕ) (o : Outcome) (h : HeadingFields) (rest : List ℕ) → HasHeading o h
     → lines_from true (codes "DUP") (receipt_text c o h ++ rest) ≡ count_by is_duplicate (o ∷ []) + lines_from true (codes "DUP") rest
-duplicate-lines c (Accepted p n) h rest is =
-    let text : List ℕ = then_number c ++ then_number p ++ then_number n in
-    omega (arith, rest-of-line (codes "DUP") (text ++ 32 ∷ heading_text h) rest (lacks-append 10 text (32 ∷ heading_text h) (three c p n) (lacks-heading 10 h (omega arith) is)))
+duplicate-lines c (Accepted p n) h rest is = grind (arith, common_steps, rest-of-line, lacks-append, three, lacks-heading)
 duplicate-lines c (Duplicate p) h rest is = omega (arith, rest-of-line (codes "DUP") (then_number c ++ then_number p) rest (numbers c p))
 duplicate-lines c (Asked f m) h rest is = omega (arith, rest-of-line (codes "DUP") (then_number c ++ then_number f ++ then_number m) rest (three c f m))
-duplicate-lines c (Refused r) h rest is =
-    omega (arith, rest-of-line (codes "DUP") (then_number c ++ 32 ∷ refusal_text r) rest (lacks-append 10 (then_number c) (32 ∷ refusal_text r) (number c) (refusal r)))
-duplicate-lines c (LineLost f) h rest is =
-    omega (arith, rest-of-line (codes "DUP") (then_number c ++ 32 ∷ lost_text f) rest (lacks-append 10 (then_number c) (32 ∷ lost_text f) (number c) (loss f)))
-duplicate-lines c (Resend i) h rest is = omega arith
-duplicate-lines c (Draw i) h rest is = omega arith
-duplicate-lines c Nothing h rest is = omega arith
+duplicate-lines c (Refused r) h rest is = grind (arith, common_steps, rest-of-line, lacks-append, number, refusal)
+duplicate-lines c (LineLost f) h rest is = grind (arith, common_steps, rest-of-line, lacks-append, number, loss)
+duplicate-lines c _ h rest is = omega arith
 
 pub granted-lines : (c : ℕ) (o : Outcome) (h : HeadingFields) (rest : List ℕ) → HasHeading o h
     → lines_from true (codes "ASK") (receipt_text c o h ++ rest) ≡ count_by is_granted (o ∷ []) + lines_from true (codes "ASK") rest
-granted-lines c (Accepted p n) h rest is =
-    let text : List ℕ = then_number c ++ then_number p ++ then_number n in
-    omega (arith, rest-of-line (codes "ASK") (text ++ 32 ∷ heading_text h) rest (lacks-append 10 text (32 ∷ heading_text h) (three c p n) (lacks-heading 10 h (omega arith) is)))
+granted-lines c (Accepted p n) h rest is = grind (arith, common_steps, rest-of-line, lacks-append, three, lacks-heading)
 granted-lines c (Duplicate p) h rest is = omega (arith, rest-of-line (codes "ASK") (then_number c ++ then_number p) rest (numbers c p))
 granted-lines c (Asked f m) h rest is = omega (arith, rest-of-line (codes "ASK") (then_number c ++ then_number f ++ then_number m) rest (three c f m))
-granted-lines c (Refused r) h rest is =
-    omega (arith, rest-of-line (codes "ASK") (then_number c ++ 32 ∷ refusal_text r) rest (lacks-append 10 (then_number c) (32 ∷ refusal_text r) (number c) (refusal r)))
-granted-lines c (LineLost f) h rest is =
-    omega (arith, rest-of-line (codes "ASK") (then_number c ++ 32 ∷ lost_text f) rest (lacks-append 10 (then_number c) (32 ∷ lost_text f) (number c) (loss f)))
-granted-lines c (Resend i) h rest is = omega arith
-granted-lines c (Draw i) h rest is = omega arith
-granted-lines c Nothing h rest is = omega arith
+granted-lines c (Refused r) h rest is = grind (arith, common_steps, rest-of-line, lacks-append, number, refusal)
+granted-lines c (LineLost f) h rest is = grind (arith, common_steps, rest-of-line, lacks-append, number, loss)
+granted-lines c _ h rest is = omega arith
 
 -- ---- of a history
 
@@ -93,13 +82,7 @@ heard-heading d s c kind message (Accepted p n) e =
     let was : WasRead d message = was_read d s c kind message p n e in
     let is : IsMessage message was.parts = split_takes message was.parts was.read in
     subst (λ (h : HeadingFields). IsHeading h) (sym (heading_of_message-read d message was)) is.body.heading_is
-heard-heading d s c kind message (Duplicate p) e = tt
-heard-heading d s c kind message (Asked f m) e = tt
-heard-heading d s c kind message (Refused r) e = tt
-heard-heading d s c kind message (LineLost f) e = tt
-heard-heading d s c kind message (Resend i) e = tt
-heard-heading d s c kind message (Draw i) e = tt
-heard-heading d s c kind message Nothing e = tt
+heard-heading d s c kind message _ e = tt
 
 -- of one receipt, behind which more is said
 abbrev Counted : List ℕ → (Outcome → Bool) → Type 0
@@ -149,9 +132,7 @@ entry-lines : (word : List ℕ) (kind : Outcome → Bool) (counted : Counted wor
     ≡ count_by kind (outcome_of d s entry) + lines_from true word rest
 entry-lines word kind counted d s (Done event) rest = event-lines word kind counted d s event rest
 entry-lines word kind counted d s (Unsaid event) rest = event-lines word kind counted d s event rest
-entry-lines word kind counted d s (Idle event fault) rest = omega arith
-entry-lines word kind counted d s (Doubt events) rest = omega arith
-entry-lines word kind counted d s Restarted rest = omega arith
+entry-lines word kind counted d s _ rest = omega arith
 
 history-lines : (word : List ℕ) (kind : Outcome → Bool) (counted : Counted word kind) (d : Directory) (s : State) (entries : List Entry)
     → lines_from true word (channel_bytes 0 (said d s entries)) ≡ count_by kind (outcomes d s entries)

@@ -1,14 +1,14 @@
 -- What a run of the day's capture comes to, from how it ended.
-use Rattle.std.proofs.Common.{◌≡◌, ℕ, ◌≤◌, List, [], ◌∷◌, ◌++◌, length, map, sum, Option, Some, None, Result, Ok, Err, IsTrue, refl, sym, ap, subst, ◌∙◌, arith, replicate, if◌then◌else◌, nat_eq}
-use Rattle.gts_generate.specs.Cited.{AllByRecursion, BeginsDay, Compact, Connections, Device, Did, Disk, Done, Doubt, Drain, EachOwedFew, EachRoutedOnce, EndHead, Ends, EndsDay, Engine, Entry, Event, Feed, Files, HasFailed, HasRead, HasSaid, Holds, IsCut, IsDone, IsFullOn, IsOrdered, IsStart, IsWhole, Journaled, Keeps, Need, Needs, ObservedOrigin, One, OpenFault, Opened, Outside, Reading, Reopen, ReplayEnd, Restart, Restarted, Say, SayMode, StandsFor, State, Station, StationInMemory, Step, StopsAtFault, Syncs, Take, Two, Unsaid, Version, after_all, after_step, all_done, begun, calls_on, capture, circuit_need_of, compacted_at, compactions, day_origin, day_summary, directory, draws_in, draws_of, empty, entries, entries_from, entries_of_step, events_added, file_opens, files_open, flat_map, full, head_text, history, is_sound, journal_text, need, need_of, new_journal, no_bytes, nothing, opened_of, opens, origin_behind, origin_of, outside_of, readable, restarted, said_by, seen, selected, settled, shown, slice_index_or, start, starts_with, state_after, state_at, step_text, steps, summary_lines, summary_text, switch_meanings, takes_of_drain, used_at, written}
+use Rattle.std.proofs.Common.{◌≡◌, ℕ, ◌≤◌, List, [], ◌∷◌, ◌++◌, length, Option, Some, None, Ok, IsTrue, refl, sym, ap, subst, ◌∙◌, arith, replicate}
+use Rattle.gts_generate.specs.Cited.{AllByRecursion, BeginsDay, Compact, Connections, Device, Did, Disk, Done, Doubt, Drain, EachOwedFew, EachRoutedOnce, EndHead, Ends, EndsDay, Engine, Entry, Event, Feed, Files, HasFailed, HasRead, HasSaid, Holds, IsCut, IsDone, IsFullOn, IsOrdered, IsStart, IsWhole, Journaled, Keeps, Need, Needs, ObservedOrigin, One, Outside, Reading, Reopen, ReplayEnd, Restart, Restarted, Say, SayMode, StandsFor, State, Station, StationInMemory, Step, StopsAtFault, Syncs, Take, Two, Unsaid, Version, after_all, after_step, all_done, begun, calls_on, capture, compacted_at, compactions, day_origin, day_summary, directory, draws_in, draws_of, empty, entries, entries_from, entries_of_step, events_added, file_opens, files_open, flat_map, full, head_text, history, is_sound, journal_text, need, need_of, new_journal, no_bytes, nothing, opened_of, opens, origin_behind, origin_of, outside_of, readable, restarted, said_by, seen, settled, shown, slice_index_or, start, state_after, state_at, step_text, steps, summary_lines, summary_text, switch_meanings, takes_of_drain, used_at}
 use Rattle.gts_directory.specs.Directory as directories
 use Rattle.gts_memory.specs.contracts.station.MemStationStation.TheImpl as in_memory
 use Rattle.gts_event.specs.declared.values.Need as values
-use Rattle.gts_event.specs.declared.values.CircuitNeed as value_circuits
 use Rattle.gts_event.specs.declared.fault.SwitchFault.TheVariants as switch
 use Rattle.gts_connection.proofs.LawLemmas.{reads_once, whole_is_read}
 use Rattle.gts_replay.specs.declared.end.ReplayEnd.TheVariants as end
 use Rattle.gts_generate.proofs.LawLemmas.{read-as-steps, never-compacts}
+use Rattle.std.proofs.lemmas.Grind.{common_steps}
 
 -- ---- the capture is read as its steps
 
@@ -47,8 +47,7 @@ step-done s bs Compact = tt
 steps-done : (d : directories.Directory) (s : State) (bs : Connections) (ss : List Step) → AllDone (entries_from d s bs ss)
 steps-done d s bs [] = tt
 steps-done d s bs (step ∷ ss) =
-    both-done (entries_of_step s bs step) (entries_from d (after_all d s (entries_of_step s bs step)) (after_step d bs step) ss)
-    (step-done s bs step) (steps-done d (after_all d s (entries_of_step s bs step)) (after_step d bs step) ss)
+    grind (arith, common_steps, both-done, step-done, steps-done d (after_all d s (entries_of_step s bs step)) (after_step d bs step) ss)
 
 done-at : (front : List Entry) (e : Entry) (back : List Entry) → AllDone (front ++ e ∷ back) → WasDone e
 done-at [] e back all = all.0
@@ -68,17 +67,13 @@ new-file Two = refl
 
 -- its files open to nothing
 pub new-files : (files : Files) → files 0 ≡ new_journal (replicate 32 0) → files 2 ≡ [] → files_open directory files ≡ Ok (empty directory, 41)
-new-files files first third =
-    let none : selected files ≡ 0 = ap (λ (b : List ℕ). if starts_with nat_eq b (1 ∷ []) then 1 else 0) third in
-    ap (λ (k : ℕ). opened_of (file_opens written directory k (files k))) none ∙ ap (λ (b : List ℕ). opened_of (file_opens written directory 0 b)) first ∙ new-file written
+new-files files first third = grind (arith, common_steps, new-file)
 
 nothing-is : need directory (restarted directory (empty directory)) ≡ nothing directory
 nothing-is = refl
 
 pub new-need : (files : Files) → files_open directory files ≡ Ok (empty directory, 41) → opens directory files ≡ Ok (nothing directory)
-new-need files is =
-    ap (λ (r : Opened). elim r as (λ _. Result Need OpenFault) [ Err fault ↦ Err fault | Ok opened ↦ Ok (need directory (restarted directory opened.0)) ]) is
-    ∙ ap (λ (n : Need). Ok n) nothing-is
+new-need files is = grind (arith, common_steps, nothing-is)
 
 pub used-there : (files : Files) (s : State) (used : ℕ) → files_open directory files ≡ Ok (empty directory, 41) → files_open directory files ≡ Ok (s, used) → used ≡ 41
 used-there files s used one other = let same : (s, used) ≡ (empty directory, 41) = cc in ap (λ (x : State × ℕ). x.1) same
@@ -192,11 +187,7 @@ module _ (count : ℕ) (first last : Engine StationInMemory) (b : BeginsDay firs
 -- ---- what is summed up of it
 
 pub draws-are : (n : values.Need) → draws_of n ≡ draws_in (need_of n)
-draws-are n = ap sum (same n.circuits)
-  where
-    same : (cs : List value_circuits.CircuitNeed) → map (λ c. c.draws) cs ≡ map (λ c. c.draws) (map circuit_need_of cs)
-    same [] = refl
-    same (c ∷ cs) = ap (λ (l : List ℕ). c.draws ∷ l) (same cs)
+draws-are n = grind (arith, common_steps)
 
 -- the summary is that of the day's history
 pub summed : (count : ℕ) (e : Engine StationInMemory) (station : StationInMemory) (n : values.Need) (used : ℕ) → EndsDay count e

@@ -1,12 +1,12 @@
 -- What was said on the circuits, out of the sayings of a station.
-use Rattle.std.proofs.Common.{◌≡◌, ℕ, ◌+◌, ◌<◌, ◌≤◌, Bool, true, false, List, [], ◌∷◌, ◌++◌, length, take, get_or, refl, sym, ◌∙◌, ap, arith, flat_map, if◌then◌else◌, ◌&&◌, nat_le, nat_lt, slice_get, Some}
-use Rattle.std.proofs.Math.Bool.{and-false}
+use Rattle.std.proofs.Common.{◌≡◌, ℕ, ◌+◌, ◌<◌, ◌≤◌, Bool, true, false, List, [], ◌∷◌, ◌++◌, length, take, get_or, refl, sym, ◌∙◌, ap, arith, flat_map, if◌then◌else◌, nat_lt, slice_get, Some}
 use Rattle.std.proofs.lemmas.Bool.{ltb-false, lt-leb}
 use Rattle.std.proofs.lemmas.List.{append-nil, take_more, take_all}
 use Rattle.std.proofs.lemmas.Grind.{flat_map-append}
 use Rattle.std.proofs.lemmas.Option.{slice_get_within, get_or_from_slice_get}
 use Rattle.gts_generate.specs.Cited.{Broken, CHANNELS, Call, Cuts, Did, Doing, Noted, Says, Syncs, Writes, calls_of, fits, frames_said, is_circuit, kept_call, on, said_by, saying_of, sayings, unchanged}
 use Rattle.gts_generate.proofs.FramesLemmas.{frames-append, frames-where}
+use Rattle.std.proofs.lemmas.Grind.{common_steps}
 
 -- what of a saying was said on a circuit
 abbrev pub on_circuit : ℕ × List ℕ → List ℕ
@@ -20,9 +20,7 @@ frames-on channel bytes = frames-where (is_circuit channel) channel bytes refl
 
 -- no channel behind the last one is a circuit's
 no-circuit : (channel : ℕ) → nat_lt channel CHANNELS ≡ false → is_circuit channel ≡ false
-no-circuit channel past =
-    let high : CHANNELS ≤ channel = ltb-false channel CHANNELS past in
-    ap (λ (b : Bool). nat_le 1 channel && b) (lt-leb channel 8 (omega (arith, high))) ∙ and-false (nat_le 1 channel)
+no-circuit channel past = grind (arith, common_steps, ltb-false, lt-leb)
 
 -- a call that says nothing
 after-write : (fit : Bool) (file at : ℕ) (bytes left : List ℕ) (calls : List Call)
@@ -39,25 +37,18 @@ after-cut false file size left calls = sym (append-nil (frames_said (said_by cal
 
 -- a say that broke says nothing
 after-nothing : (channel : ℕ) (calls : List Call) → frames_said (said_by calls ++ on channel []) ≡ frames_said (said_by calls) ++ []
-after-nothing channel calls =
-    ap frames_said (append-nil (said_by calls)) ∙ sym (append-nil (frames_said (said_by calls)))
+after-nothing channel calls = grind (arith, common_steps, append-nil)
 
 after-say : (fit : Bool) (channel : ℕ) (bytes : List ℕ) (calls : List Call) → nat_lt channel CHANNELS ≡ fit
     → frames_said (said_by ((if fit then Did (Says channel bytes) else Broken (Says channel bytes) []) ∷ calls))
     ≡ frames_said (said_by calls) ++ on_circuits ((channel, bytes) ∷ [])
-after-say true channel bytes calls here =
-    frames-append (said_by calls) (on channel bytes)
-    ∙ ap (λ (l : List ℕ). frames_said (said_by calls) ++ l) (frames-on channel bytes ∙ sym (append-nil (on_circuit (channel, bytes))))
-after-say false channel bytes calls here =
-    let none : on_circuit (channel, bytes) ≡ [] = ap (λ (b : Bool). if b then bytes else []) (no-circuit channel here) in
-    after-nothing channel calls
-    ∙ ap (λ (l : List ℕ). frames_said (said_by calls) ++ l) (sym (append-nil (on_circuit (channel, bytes)) ∙ none))
+after-say true channel bytes calls here = grind (arith, common_steps, frames-append, frames-on, append-nil)
+after-say false channel bytes calls here = grind (arith, common_steps, no-circuit, after-nothing, append-nil)
 
 -- one call more
 call-more : (done : Bool) (doing : Doing) (calls : List Call)
     → frames_said (said_by (kept_call done doing calls ∷ calls)) ≡ frames_said (said_by calls) ++ on_circuits (saying_of done doing)
-call-more true (Writes file at bytes) calls =
-    after-write (fits (Writes file at bytes) calls) file at bytes (unchanged (Writes file at bytes) calls) calls
+call-more true (Writes file at bytes) calls = grind (arith, common_steps, after-write)
 call-more true (Cuts file size) calls = after-cut (fits (Cuts file size) calls) file size (unchanged (Cuts file size) calls) calls
 call-more true Syncs calls = sym (append-nil (frames_said (said_by calls)))
 call-more true (Says channel bytes) calls = after-say (nat_lt channel CHANNELS) channel bytes calls refl
@@ -69,10 +60,7 @@ call-more false (Says channel bytes) calls = after-nothing channel calls
 -- the bytes of all sayings are what was said
 pub circuits-said : (past : List Noted) → frames_said (said_by (calls_of past)) ≡ on_circuits (sayings past)
 circuits-said [] = refl
-circuits-said (noted ∷ past) =
-    call-more noted.done noted.doing (calls_of past)
-    ∙ ap (λ (l : List ℕ). l ++ on_circuits (saying_of noted.done noted.doing)) (circuits-said past)
-    ∙ sym (flat_map-append on_circuit (sayings past) (saying_of noted.done noted.doing))
+circuits-said (noted ∷ past) = grind (arith, common_steps, call-more, flat_map-append, circuits-said past)
 
 -- one saying more
 pub sayings-more : (said : List (ℕ × List ℕ)) (k channel : ℕ) (bytes : List ℕ) → slice_get said k ≡ Some (channel, bytes)

@@ -1,12 +1,13 @@
 -- One pair of laws for each field: what was read is spelled so, and what is spelled so is read.
 use Rattle.std.proofs.Common.{◌≡◌, ℕ, ◌<◌, ◌≤◌, ◌⊎◌, inl, inr, Bool, true, false, ◌&&◌, cond, eqb, leb, List, [], ◌∷◌, ◌++◌, length, take, drop, Option, Some, None, Result, Ok, Err, IsTrue, nat_eq, nat_le, refl, sym, ap, subst, ◌∙◌, append_assoc, arith}
-use Rattle.gts_heading.specs.Cited.{Bbb, EOL, IsGap, MessageField, NoBlank, after_gap, after_word, are_capitals, bare_group_at, capitals_at, dec, digits_value, group_at, group_text, is_ascii_digit, is_ascii_uppercase, is_bbb, is_group, letters_at, list_all, message_group_at, starts_with, two_digits_at}
+use Rattle.gts_heading.specs.Cited.{EOL, IsGap, MessageField, NoBlank, after_gap, after_word, are_capitals, bare_group_at, capitals_at, dec, digits_value, group_at, group_text, is_ascii_digit, is_bbb, is_group, letters_at, list_all, message_group_at, starts_with, two_digits_at}
 use Rattle.gts_heading.specs.Reading.{◌>>=◌}
-use Rattle.std.proofs.lemmas.Bool.{leb-true, le-leb, ne_eqb, and_parts, false≢true}
+use Rattle.std.proofs.lemmas.Bool.{leb-true, le-leb, ne_eqb, and_parts}
 use Rattle.std.proofs.lemmas.Bool.Decides.{Decides-eqb}
 use Rattle.std.proofs.lemmas.List.{take_at, drop_at, take-append-drop, length-append, length-take-le}
 use Rattle.std.proofs.lemmas.Slice.Eq.{starts_is}
 use Rattle.gts_alphabet.proofs.LawLemmas.{length-dec, AllDigits-dec, digits_value-dec, dec-digits_value, AllDigits-from_test, test_from_AllDigits}
+use Rattle.std.proofs.lemmas.Grind.{common_steps}
 
 -- the value of a step that did not fail
 pub bind_ok : {A B : Type 0} (r : Result A MessageField) (f : A → Result B MessageField) (y : B) → (r >>= f) ≡ Ok y → (x : A) × (r ≡ Ok x) × (f x ≡ Ok y)
@@ -43,31 +44,20 @@ pub starts_so : (bytes word : List ℕ) → starts_with nat_eq bytes word ≡ tr
 starts_so bytes word e = (starts_is Decides-eqb bytes word (starts_with nat_eq bytes word) refl).0 e
 
 pub word_takes : (word : List ℕ) (field : MessageField) (bytes rest : List ℕ) → after_word word field bytes ≡ Ok rest → bytes ≡ word ++ rest
-word_takes word field bytes rest e =
-    let passed = chosen (starts_with nat_eq bytes word) field (drop (length word) bytes) rest e in
-    starts_so bytes word passed.0 ∙ ap (λ (r : List ℕ). word ++ r) passed.1
+word_takes word field bytes rest e = grind (arith, common_steps, chosen, starts_so)
 
 pub word_again : (word : List ℕ) (field : MessageField) (rest : List ℕ) → after_word word field (word ++ rest) ≡ Ok rest
-word_again word field rest =
-    let starts = (starts_is Decides-eqb (word ++ rest) word (starts_with nat_eq (word ++ rest) word) refl).1 rest refl in
-    rw (starts, drop_at word rest (length word) refl) refl
+word_again word field rest = grind (arith, common_steps, starts_is, Decides-eqb, drop_at)
 
 -- ---- capitals
 
 pub capitals_take : (count : ℕ) (field : MessageField) (bytes : List ℕ) (x : List ℕ × List ℕ) → capitals_at count field bytes ≡ Ok x
     → (bytes ≡ x.0 ++ x.1) × (length x.0 ≡ count) × IsTrue (are_capitals x.0)
-capitals_take count field bytes x e =
-    let passed = chosen (nat_le count (length bytes) && are_capitals (take count bytes)) field (take count bytes, drop count bytes) x e in
-    let both = and_parts (nat_le count (length bytes)) (are_capitals (take count bytes)) passed.0 in
-    let long : count ≤ length bytes = leb-true _ _ both.0 in
-    subst (λ (y : List ℕ × List ℕ). (bytes ≡ y.0 ++ y.1) × (length y.0 ≡ count) × IsTrue (are_capitals y.0)) passed.1
-    (sym (take-append-drop count bytes), length-take-le count bytes long, both.1)
+capitals_take count field bytes x e = grind (arith, common_steps, chosen, and_parts, leb-true, take-append-drop, length-take-le)
 
 pub capitals_again : (count : ℕ) (field : MessageField) (letters rest : List ℕ) → length letters ≡ count → IsTrue (are_capitals letters)
     → capitals_at count field (letters ++ rest) ≡ Ok (letters, rest)
-capitals_again count field letters rest len capitals =
-    let long : leb count (length (letters ++ rest)) ≡ true = le-leb _ _ (omega (arith, length-append letters rest)) in
-    rw (long, take_at letters rest count len, drop_at letters rest count len, capitals) refl
+capitals_again count field letters rest len capitals = grind (arith, common_steps, le-leb, length-append, take_at, drop_at)
 
 -- ---- two digits
 
@@ -100,9 +90,7 @@ digits_again low high field n rest above below small =
 -- ---- groups
 
 letters_take : (bytes : List ℕ) (x : List ℕ × List ℕ) → letters_at bytes ≡ Ok x → (bytes ≡ x.0 ++ x.1) × IsTrue (is_bbb x.0)
-letters_take bytes x e =
-    let passed = chosen (is_bbb (take 3 bytes)) Bbb (take 3 bytes, drop 3 bytes) x e in
-    subst (λ (y : List ℕ × List ℕ). (bytes ≡ y.0 ++ y.1) × IsTrue (is_bbb y.0)) passed.1 (sym (take-append-drop 3 bytes), passed.0)
+letters_take bytes x e = grind (arith, common_steps, chosen, take-append-drop)
 
 letters_again : (letters rest : List ℕ) → IsTrue (is_bbb letters) → letters_at (letters ++ rest) ≡ Ok (letters, rest)
 letters_again (a ∷ b ∷ c ∷ []) rest e = rw e refl
@@ -144,10 +132,7 @@ message_group_takes bytes x e =
 
 -- the first letter of a group is a capital, and so no CR
 no_cr : (a b c : ℕ) → IsTrue (is_bbb (a ∷ b ∷ c ∷ [])) → eqb 13 a ≡ false
-no_cr a b c is =
-    ne_eqb 13 a (λ cr.
-    let at_cr : IsTrue (is_bbb (13 ∷ b ∷ c ∷ [])) = subst (λ (x : ℕ). IsTrue (is_bbb (x ∷ b ∷ c ∷ []))) (sym cr) is in
-    false≢true (and_parts (is_ascii_uppercase c) false at_cr).1)
+no_cr a b c is = grind (arith, common_steps, ne_eqb, and_parts)
 
 pub message_group_again : (group : Option (List ℕ)) (gap rest : List ℕ) → IsTrue (is_group group) → IsGap gap
     → message_group_at (group_text group ++ (gap ++ (EOL ++ rest))) ≡ Ok (group, gap ++ (EOL ++ rest))

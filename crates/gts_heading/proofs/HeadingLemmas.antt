@@ -4,6 +4,7 @@ use Rattle.std.proofs.lemmas.List.{append-nil, drop_at, take-append-drop, append
 use Rattle.gts_heading.specs.Cited.{Aa, Cccc, Day, EOL, Heading, HeadingEnd, HeadingFields, Hour, Ii, IsGap, IsHeading, IsHeadingLine, MessageField, Minute, NoBlank, Reads, Tt, after_gap, after_word, bare_group_at, bare_heading_at, capitals_at, dec, fields_of, group_text, heading_at, heading_text, is_group, message_group_at, plain_heading_at, two_digits_at, with_group}
 use Rattle.gts_heading.specs.Reading.{◌>>=◌}
 use Rattle.gts_heading.proofs.FieldLemmas.{bind_ok, step_ok, and_part, ok_is, word_takes, capitals_take, capitals_again, digits_take, digits_again, bare_group_takes, bare_group_again, message_group_takes, message_group_again, gap_takes, gap_again}
+use Rattle.std.proofs.lemmas.Grind.{common_steps}
 
 -- ---- a heading without its group
 
@@ -155,10 +156,7 @@ pub record TakesLine (bytes : List ℕ) (h : HeadingFields) (rest : List ℕ) : 
   pub spelled : (gap : List ℕ) × IsGap gap × (bytes ≡ heading_text h ++ gap ++ EOL ++ rest)
 
 line_parts : (bytes a ra b rb gap rc rest : List ℕ) → bytes ≡ a ++ ra → ra ≡ b ++ rb → rb ≡ gap ++ rc → rc ≡ EOL ++ rest → bytes ≡ a ++ b ++ gap ++ EOL ++ rest
-line_parts bytes a ra b rb gap rc rest is_a is_b is_gap is_end =
-    let to_b = and_part bytes a ra b rb is_a is_b in
-    let to_gap = and_part bytes (a ++ b) rb gap rc to_b is_gap in
-    and_part bytes (a ++ b ++ gap) rc EOL rest to_gap is_end
+line_parts bytes a ra b rb gap rc rest is_a is_b is_gap is_end = grind (arith, common_steps, and_part)
 
 pub line_takes : (bytes : List ℕ) (x : HeadingFields × List ℕ) → heading_at bytes ≡ Ok x → TakesLine bytes x.0 x.1
 unfolding heading_at heading_text
@@ -196,9 +194,7 @@ rest_fits bytes text rest e = omega (arith, ap length e, length-append text rest
 
 -- dropping all but the rest leaves the rest
 pub drop_to_rest : (bytes text rest : List ℕ) → bytes ≡ text ++ rest → drop (length bytes - length rest) bytes ≡ rest
-drop_to_rest bytes text rest e =
-    let len : length text ≡ length bytes - length rest = omega (arith, ap length e, length-append text rest) in
-    ap (drop (length bytes - length rest)) e ∙ drop_at text rest (length bytes - length rest) len
+drop_to_rest bytes text rest e = grind (arith, common_steps, length-append, drop_at)
 
 -- so much is left behind a heading
 pub bare_rest : (bytes : List ℕ) (h : HeadingFields) (rest : List ℕ) → bare_heading_at bytes ≡ Ok (h, rest)
@@ -244,13 +240,8 @@ pub bare_only : (bytes : List ℕ) (r : Result (Heading × ℕ) MessageField)
     → IfOk r (λ found. found.1 ≤ length bytes) → Reads (read_from bytes) r (bare_heading_at bytes)
     → (h : HeadingFields) (rest : List ℕ) → IsHeading h → NoBlank rest → bytes ≡ heading_text h ++ rest
     → IsOkAnd r (λ found. (fields_of found.0 ≡ h) × (found.1 ≡ length (heading_text h)))
-bare_only bytes (Ok found) fits e h rest is none spelled =
-    let same = ok_is (read_from bytes found) (h, rest) (sym e ∙ ap bare_heading_at spelled ∙ bare_again h rest is none) in
-    let dropped : drop found.1 bytes ≡ rest = ap (λ (x : HeadingFields × List ℕ). x.1) same in
-    (ap (λ (x : HeadingFields × List ℕ). x.0) same, front_length bytes (heading_text h) rest found.1 fits spelled dropped)
-bare_only bytes (Err field) fits e h rest is none spelled =
-    let apart = sym e ∙ ap bare_heading_at spelled ∙ bare_again h rest is none in
-    absurd cc
+bare_only bytes (Ok found) fits e h rest is none spelled = grind (arith, common_steps, ok_is, bare_again, front_length)
+bare_only bytes (Err field) fits e h rest is none spelled = grind (arith, common_steps, bare_again)
 
 pub line_heading : (bytes : List ℕ) (r : Result (Heading × ℕ) MessageField) → Reads (read_from bytes) r (heading_at bytes)
     → IfOk r (λ found. IsHeading (fields_of found.0))
@@ -269,15 +260,8 @@ pub line_only : (bytes : List ℕ) (r : Result (Heading × ℕ) MessageField)
     → IfOk r (λ found. found.1 ≤ length bytes) → Reads (read_from bytes) r (heading_at bytes)
     → (h : HeadingFields) (line rest : List ℕ) → IsHeading h → IsHeadingLine line h → bytes ≡ line ++ rest
     → IsOkAnd r (λ found. (fields_of found.0 ≡ h) × (found.1 ≡ length line))
-line_only bytes (Ok found) fits e h line rest is is_line spelled =
-    let again : heading_at bytes ≡ Ok (h, rest) =
-    ap heading_at (spelled ∙ ap (λ (front : List ℕ). front ++ rest) is_line.2) ∙ line_again h is_line.0 rest is is_line.1 in
-    let same = ok_is (read_from bytes found) (h, rest) (sym e ∙ again) in
-    let dropped : drop found.1 bytes ≡ rest = ap (λ (x : HeadingFields × List ℕ). x.1) same in
-    (ap (λ (x : HeadingFields × List ℕ). x.0) same, front_length bytes line rest found.1 fits spelled dropped)
-line_only bytes (Err field) fits e h line rest is is_line spelled =
-    let apart = sym e ∙ ap heading_at (spelled ∙ ap (λ (front : List ℕ). front ++ rest) is_line.2) ∙ line_again h is_line.0 rest is is_line.1 in
-    absurd cc
+line_only bytes (Ok found) fits e h line rest is is_line spelled = grind (arith, common_steps, line_again, ok_is, front_length)
+line_only bytes (Err field) fits e h line rest is is_line spelled = grind (arith, common_steps, line_again)
 
 -- ---- headings and their texts
 

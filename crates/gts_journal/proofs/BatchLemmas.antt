@@ -9,14 +9,11 @@ use Rattle.gts_traits.proofs.LawLemmas.{weaker, joined, seen_written, seen_elsew
 use Rattle.gts_record.proofs.LawLemmas.{chain_text-append, last_seal-append}
 use Rattle.gts_journal.proofs.GateLemmas.{gate_at, Staged, torn_behind, written_is, torn_gate, written_gate}
 use Rattle.gts_journal.proofs.AppendLemmas.{kept_elsewhere, not_selector, synced_after}
+use Rattle.std.proofs.lemmas.Grind.{common_steps}
 
 -- a block without the closed gate at its end
 pub opened_is : (text : List ℕ) (block : IsBlock text) → opened_part text ≡ open_gate ∷ block.0
-opened_is text block =
-    let behind : List ℕ = block.0 in
-    ap (λ (l : List ℕ). take (length l - 1) l) block.1
-    ∙ take_at (open_gate ∷ behind) (closed_gate ∷ []) (length (open_gate ∷ (behind ++ closed_gate ∷ [])) - 1)
-    (omega (arith, length-append behind (closed_gate ∷ [])))
+opened_is text block = grind (arith, common_steps, take_at)
 
 module _ (old : List Call) (j : InHand) (stands : StandsOn old j) (ended : j.ended ≡ true) (text : List ℕ) (block : IsBlock text) where
   abbrev behind : List ℕ
@@ -162,13 +159,7 @@ block_bytes text (x ∷ xs) (suc n) end block some whole is =
 -- a journal behind a batch
 pub placed : (k j : InHand) (v : Version) (size : ℕ) (items last : List ℕ) (b : Gathered) → k ≡ j → record { version = v; text = take size items; seal = held v last } ≡ b → b.version ≡ j.version → size ≤ length items
     → record k { gate = k.gate + (size - 1); seal = held k.version last; ahead = []; is_all = false } ≡ beyond_block j b.text b.seal
-placed k j v size items last b is view version fits =
-    let text : take size items ≡ b.text = ap (λ (x : Gathered). x.text) view in
-    let long : size ≡ length b.text = omega (arith, ap length text, length-take size items, fits) in
-    let own : held j.version last ≡ b.seal = ap (λ (w : Version). held w last) (sym version ∙ sym (ap (λ (x : Gathered). x.version) view)) ∙ ap (λ (x : Gathered). x.seal) view in
-    ap (λ (x : InHand). record x { gate = x.gate + (size - 1); seal = held x.version last; ahead = []; is_all = false }) is
-    ∙ ap (λ (n : ℕ). record j { gate = j.gate + (n - 1); seal = held j.version last; ahead = []; is_all = false }) long
-    ∙ ap (λ (l : List ℕ). record j { gate = j.gate + (length b.text - 1); seal = l; ahead = []; is_all = false }) own
+placed k j v size items last b is view version fits = grind (arith, common_steps, length-take)
 
 -- an open gate is written over the last closed one, then a record with its seal, and a closed gate
 pub one_more : (front chained text rest : List ℕ) (size count : ℕ) → front ≡ chained ++ closed_gate ∷ [] → length front ≡ size → length text ≡ count → 0 < length rest
@@ -193,17 +184,7 @@ one_more front chained text (x ∷ rest) size count is long texts some =
 -- so the records have one more
 pub gathers_more : (v : Version) (before last next text : List ℕ) (rs : List Record) (r : Record) → last ≡ last_seal v before (texts_of rs) → next ≡ seal v last (record_text r)
     → text ≡ (chain_text v before (texts_of rs) ++ open_gate ∷ sealed v last (record_text r)) ++ closed_gate ∷ [] → Gathers before (rs ++ r ∷ []) (record { version = v; text = text; seal = next })
-gathers_more v before last next text rs r is seals texts =
-    let more : texts_of (rs ++ r ∷ []) ≡ texts_of rs ++ record_text r ∷ [] = map-append record_text rs (r ∷ []) in
-    record {
-      text = texts
-          ∙ ap (λ (l : List ℕ). l ++ closed_gate ∷ [])
-          (ap (λ (l : List ℕ). chain_text v before (texts_of rs) ++ open_gate ∷ sealed v l (record_text r)) is
-          ∙ ap (λ (l : List ℕ). chain_text v before (texts_of rs) ++ open_gate ∷ l) (sym (append-nil (sealed v (last_seal v before (texts_of rs)) (record_text r))))
-          ∙ sym (chain_text-append v before (texts_of rs) (record_text r ∷ []))
-          ∙ ap (chain_text v before) (sym more));
-      seal = seals ∙ ap (λ (l : List ℕ). seal v l (record_text r)) is ∙ sym (last_seal-append v before (texts_of rs) (record_text r ∷ [])) ∙ ap (last_seal v before) (sym more);
-    }
+gathers_more v before last next text rs r is seals texts = grind (arith, common_steps, map-append, append-nil, chain_text-append, last_seal-append)
 
 module _ (d into chained text : List ℕ) (size count : ℕ) (is : take size d ≡ chained ++ closed_gate ∷ []) (fits : size + count + 1 ≤ length d) (texts : length text ≡ count)
     (written : into ≡ text ++ drop count (take (length d - size) (drop size d))) where

@@ -10,6 +10,7 @@ use Rattle.gts_journal.proofs.GateLemmas.{gate_at}
 pub use Rattle.gts_journal.proofs.AheadLemmas.{at_mark, at_found, few_bytes}
 use Rattle.gts_journal.proofs.OpensLemmas.{at_gate, at_record, if_admitted, open_is}
 pub use Rattle.gts_journal.proofs.OpeningLemmas.{agreeing-same, agreeing-other, agreeing-end}
+use Rattle.std.proofs.lemmas.Grind.{common_steps}
 
 -- ---- a batch
 
@@ -44,7 +45,7 @@ opens_many v d k (r ∷ rs) bytes s used last limit is long admitted image end c
     ∙ ap (λ (n : ℕ). Ok (after_records d t rs, gate_after v n rs + 1, last_seal v next (texts_of rs))) (sym gate_is)
 
 -- the gate behind records stands behind their bytes
-length-chain : (v : Version) (before : List ℕ) (rs : List Record) (gate : ℕ) → gate_after v gate rs ≡ gate + length (chain_text v before (texts_of rs))
+pub length-chain : (v : Version) (before : List ℕ) (rs : List Record) (gate : ℕ) → gate_after v gate rs ≡ gate + length (chain_text v before (texts_of rs))
 length-chain v before [] gate = omega arith
 length-chain v before (r ∷ rs) gate =
     let next : List ℕ = seal v before (record_text r) in
@@ -57,9 +58,7 @@ gathered_block before r rs b g = (sealed b.version before (record_text r) ++ cha
 
 -- and without it
 gathered_part : (before : List ℕ) (rs : List Record) (b : Gathered) → Gathers before rs b → opened_part b.text ≡ chain_text b.version before (texts_of rs)
-gathered_part before rs b g =
-    let chained : List ℕ = chain_text b.version before (texts_of rs) in
-    ap (λ (l : List ℕ). take (length l - 1) l) g.text ∙ take_at chained (closed_gate ∷ []) (length (chained ++ closed_gate ∷ []) - 1) (omega (arith, length-append chained (closed_gate ∷ [])))
+gathered_part before rs b g = grind (arith, common_steps, take_at, length-append)
 
 -- one record more may stand behind records
 admitted_more : (v : Version) (d : Directory) (s : State) (gate : ℕ) (rs : List Record) (r : Record) → AreAdmitted v d s gate rs → FitsRecord r
@@ -77,13 +76,7 @@ next_none d s j = record { version = refl; gathers = record { text = refl; seal 
 
 pub next_more : (d : Directory) (s : State) (j : InHand) (rs : List Record) (r : Record) (b next : Gathered) → j.version ≡ written → AreNext d s j rs b → next.version ≡ b.version
     → Gathers j.seal (rs ++ r ∷ []) next → MayStand written d (after_records d s rs) (j.gate + length b.text) r → AreNext d s j (rs ++ r ∷ []) next
-next_more d s j rs r b next current are version gathers may =
-    let v : b.version ≡ written = are.version ∙ current in
-    let chained : List ℕ = chain_text b.version j.seal (texts_of rs) in
-    let P : ℕ → Type 0 = λ n. admits written d (after_records d s rs) n r ≡ true in
-    let at : j.gate + length b.text ≡ gate_after written j.gate rs + 1 =
-    omega (arith, ap length are.gathers.text, length-append chained (closed_gate ∷ []), length-chain b.version j.seal rs j.gate, ap (λ (w : Version). gate_after w j.gate rs) v) in
-    record { version = version ∙ are.version; gathers = gathers; admitted = admitted_more written d s j.gate rs r are.admitted may.fits (subst P at may.admitted) }
+next_more d s j rs r b next current are version gathers may = grind (arith, common_steps, length-append, length-chain, admitted_more)
 
 -- ---- the header
 
@@ -140,20 +133,15 @@ sound_tests v d file bytes false false true false true is_packed is = refl
 -- behind a header without fault
 pub opens_behind : (v : Version) (d : Directory) (file : ℕ) (bytes : List ℕ) (b : Bool) → header_fault v d.mark file bytes ≡ None → is_checkpoint bytes ≡ b
     → file_opens v d file bytes ≡ chain v d file bytes false false true false true b
-opens_behind v d file bytes b sound first =
-    sound_tests v d file bytes (length bytes == 0) (is_older v bytes) (starts_with nat_eq bytes (magic v)) (nat_lt (length bytes) 40) (pointwise nat_eq (take 32 (drop 8 bytes)) d.mark)
-    (is_checkpoint bytes) sound
-    ∙ ap (chain v d file bytes false false true false true) first
+opens_behind v d file bytes b sound first = grind (arith, common_steps, sound_tests)
 
 -- ---- the three files
 
 pub open_selected : (v : Version) (d : Directory) (files : Files) (k : ℕ) → selected files ≡ k → files_read v d files ≡ file_opens v d k (files k)
 open_selected v d files k is = ap (λ (n : ℕ). file_opens v d n (files n)) is
 
-same_open : (v : Version) (d : Directory) (files others : Files) → ((k : ℕ) → files k ≡ others k) → files_read v d files ≡ files_read v d others
-same_open v d files others same =
-    ap (λ (n : ℕ). file_opens v d n (files n)) (ap (λ (l : List ℕ). cond (starts_with nat_eq l (1 ∷ [])) 1 0) (same 2))
-    ∙ ap (file_opens v d (selected others)) (same (selected others))
+pub same_open : (v : Version) (d : Directory) (files others : Files) → ((k : ℕ) → files k ≡ others k) → files_read v d files ≡ files_read v d others
+same_open v d files others same = grind (arith, common_steps)
 
 abbrev opened_need : Directory → Read → Result Need OpenFault
 opened_need d read = elim (opened_of read) as (λ _. Result Need OpenFault) [ Err fault ↦ Err fault | Ok x ↦ Ok (need d (restarted d x.0)) ]
@@ -179,7 +167,7 @@ module _ (d : Directory) (s : State) (calls : List Call) (j : InHand) (f : Stand
   same_gate : take (j.gate + 1 - 1) (file_of calls j) ≡ front_of calls j
   same_gate = ap (λ (n : ℕ). take n (file_of calls j)) (let e : j.gate + 1 - 1 ≡ j.gate = omega arith in e)
 
-  selects : (files : Files) → files 2 ≡ seen calls 2 → selected files ≡ j.file
+  pub selects : (files : Files) → files 2 ≡ seen calls 2 → selected files ≡ j.file
   selects files same = ap (λ (l : List ℕ). cond (starts_with nat_eq l (1 ∷ [])) 1 0) same ∙ f.stands.selected_is
 
   -- what the files are read as, in the version that is written
@@ -188,7 +176,7 @@ module _ (d : Directory) (s : State) (calls : List Call) (j : InHand) (f : Stand
       ap (λ (v : Version). opened_need d (files_read v d files)) (sym f.current)
       ∙ ap (opened_need d) (open_selected j.version d files j.file same ∙ is)
 
-  before_file : (bytes : List ℕ) → EndsAt (front_of calls j) bytes → file_opens j.version d j.file bytes ≡ Ok (s, j.gate + 1, j.seal)
+  pub before_file : (bytes : List ℕ) → EndsAt (front_of calls j) bytes → file_opens j.version d j.file bytes ≡ Ok (s, j.gate + 1, j.seal)
   before_file bytes ends =
       opens_same j.version d j.file (file_of calls j) s (j.gate + 1) j.seal f.limit opens_file bytes (ends.gate ∷ ends.behind) (closed_end (front_of calls j) bytes ends)
       (ends.is ∙ ap (λ (l : List ℕ). l ++ ends.gate ∷ ends.behind) (sym same_gate))
@@ -238,7 +226,7 @@ module _ (d : Directory) (s : State) (calls : List Call) (j : InHand) (f : Stand
         }
 
   module _ (rs : List Record) (b : Gathered) (next : AreNext d s j rs b) where
-    all_file : (bytes : List ℕ) → EndsAt (front_of calls j ++ opened_part b.text) bytes
+    pub all_file : (bytes : List ℕ) → EndsAt (front_of calls j ++ opened_part b.text) bytes
         → file_opens j.version d j.file bytes ≡ Ok (after_records d s rs, gate_after j.version j.gate rs + 1, last_seal j.version j.seal (texts_of rs))
     all_file bytes ends =
         let P : Version → Type 0 = λ v. AreAdmitted v d s (j.gate + 1 - 1) rs in
@@ -337,38 +325,17 @@ module _ (d : Directory) (s : State) (calls : List Call) (j : InHand) (f : Stand
 
 -- where the selector and the journal's file are as they were, and synced, it stands where it stood
 pub same_stands : (old new : List Call) (j : InHand) → (seen new 2 ≡ seen old 2) × IsSynced new 2 → (seen new j.file ≡ seen old j.file) × IsSynced new j.file → StandsOn old j → StandsOn new j
-same_stands old new j selector file stands =
-    let P : List ℕ → Type 0 = λ l. j.ahead ≡ take (length j.ahead) (drop j.gate l) in
-    let Q : List ℕ → Type 0 = λ l. j.is_all ≡ true → length j.ahead ≡ length l - j.gate in
-    let R : List ℕ → Type 0 = λ l. j.ended ≡ true → EndsAt (take j.gate l) l in
-    record {
-      selected_is = ap (λ (l : List ℕ). cond (starts_with nat_eq l (1 ∷ [])) 1 0) selector.0 ∙ stands.selected_is;
-      selector_synced = selector.1;
-      file_synced = file.1;
-      ahead_is = subst P (sym file.0) stands.ahead_is;
-      all_is = subst Q (sym file.0) stands.all_is;
-      end_is = subst R (sym file.0) stands.end_is;
-    }
+same_stands old new j selector file stands = grind (arith, common_steps)
 
 pub same_stands_for : (d : Directory) (s : State) (old new : List Call) (j : InHand) → (seen new 2 ≡ seen old 2) × IsSynced new 2 → (seen new j.file ≡ seen old j.file) × IsSynced new j.file → StandsFor d s old j → StandsFor d s new j
-same_stands_for d s old new j selector file f =
-    let stands = same_stands old new j selector file f.stands in
-    record {
-      stands = stands;
-      ended = f.ended;
-      limit = f.limit;
-      current = f.current;
-      opens_to = open_selected j.version d (seen new) j.file stands.selected_is ∙ ap (file_opens j.version d j.file) file.0 ∙ opens_file d s old j f;
-    }
+same_stands_for d s old new j selector file f = grind (arith, common_steps, same_stands, open_selected)
 
 pub say_stands : {T E : Type 0} (result : Result T E) (channel : ℕ) (bytes : List ℕ) (old new : List Call) (j : InHand) → Tries (Says channel bytes) result old new → StandsOn old j → StandsOn new j
-say_stands result channel bytes old new j tries stands =
-    same_stands old new j (says_keeps result channel bytes old new 2 tries stands.selector_synced) (says_keeps result channel bytes old new j.file tries stands.file_synced) stands
+say_stands result channel bytes old new j tries stands = grind (arith, common_steps, same_stands, says_keeps)
 
 pub say_stands_for : {T E : Type 0} (d : Directory) (s : State) (result : Result T E) (channel : ℕ) (bytes : List ℕ) (old new : List Call) (j : InHand)
     → Tries (Says channel bytes) result old new → StandsFor d s old j → StandsFor d s new j
-say_stands_for d s result channel bytes old new j tries f =
-    same_stands_for d s old new j (says_keeps result channel bytes old new 2 tries f.stands.selector_synced) (says_keeps result channel bytes old new j.file tries f.stands.file_synced) f
+say_stands_for d s result channel bytes old new j tries f = grind (arith, common_steps, same_stands_for, says_keeps)
 
 -- ---- at most a sync was tried
 
@@ -381,14 +348,11 @@ syncs_silent old new (inr (inr broke)) = ap said_by broke.2
 syncs_keep : (old new : List Call) (k : ℕ) → OnlySyncs old new → IsSynced old k → (seen new k ≡ seen old k) × IsSynced new k
 syncs_keep old new k (inl is) kept = let P : List Call → Type 0 = λ l. (seen l k ≡ seen old k) × IsSynced l k in subst P (sym is) (refl, sync_syncs old k)
 syncs_keep old new k (inr (inl same)) kept = let P : List Call → Type 0 = λ l. (seen l k ≡ seen old k) × IsSynced l k in subst P (sym same) (refl, kept)
-syncs_keep old new k (inr (inr broke)) kept =
-    let P : List Call → Type 0 = λ l. (seen l k ≡ seen old k) × IsSynced l k in
-    subst P (sym broke.2) (refl, record { same = kept.same; untouched = λ p. kept.untouched p })
+syncs_keep old new k (inr (inr broke)) kept = grind (arith, common_steps)
 
 -- and the journal stands where it stood
 pub syncs_stand : (d : Directory) (s : State) (old new : List Call) (j : InHand) → OnlySyncs old new → StandsFor d s old j → StandsFor d s new j
-syncs_stand d s old new j syncs f =
-    same_stands_for d s old new j (syncs_keep old new 2 syncs f.stands.selector_synced) (syncs_keep old new j.file syncs f.stands.file_synced) f
+syncs_stand d s old new j syncs f = grind (arith, common_steps, same_stands_for, syncs_keep)
 
 -- what stands at a gate
 pub was_found : (v : Version) (before : List ℕ) (file gate : ℕ) (bytes : List ℕ) (r : Record) → entry_at v before file gate bytes ≡ Ok (Some r) → (rest : List ℕ) × (bytes ≡ open_gate ∷ rest) × (sealed_at v before rest ≡ Some r)
@@ -427,28 +391,12 @@ refuses_one v d n file before s gate bytes r is bad =
 pub reads_end_there : (v : Version) (d : Directory) (n file : ℕ) (before : List ℕ) (s : State) (gate : ℕ) (bytes : List ℕ) → entry_at v before file gate bytes ≡ Ok None
     → records_at v d (suc n) file before s gate bytes ≡ Ok (s, gate + 1, before)
 reads_end_there v d n file before s gate [] is = absurd (cc is)
-reads_end_there v d n file before s gate (mark ∷ bytes) is = by_mark (mark == open_gate) refl is
-  where
-    by_mark : (b : Bool) → b ≡ (mark == open_gate) → at_mark v before file gate bytes b ≡ Ok None → at_gate v d n file before s gate bytes b ≡ Ok (s, gate + 1, before)
-    by_mark false e is = refl
-    by_mark true e is = by_found (sealed_at v before bytes) is
-      where
-        by_found : (o : Option Record) → at_found file gate o ≡ Ok None → at_gate v d n file before s gate bytes true ≡ Ok (s, gate + 1, before)
-        by_found None is = absurd (cc is)
-        by_found (Some q) is = absurd (let f : Some q ≡ None = cc is in cc f)
+reads_end_there v d n file before s gate (mark ∷ bytes) is = grind (arith, common_steps, at_mark, at_gate, at_found)
 
 pub reads_fault : (v : Version) (d : Directory) (n file : ℕ) (before : List ℕ) (s : State) (gate : ℕ) (bytes : List ℕ) (fault : OpenFault) → entry_at v before file gate bytes ≡ Err fault
     → records_at v d (suc n) file before s gate bytes ≡ Err fault
 reads_fault v d n file before s gate [] fault is = let e : Damaged file gate ≡ fault = cc is in ap Err e
-reads_fault v d n file before s gate (mark ∷ bytes) fault is = by_mark (mark == open_gate) is
-  where
-    by_mark : (b : Bool) → at_mark v before file gate bytes b ≡ Err fault → at_gate v d n file before s gate bytes b ≡ Err fault
-    by_mark false is = absurd (cc is)
-    by_mark true is = by_record (sealed_at v before bytes) is
-      where
-        by_record : (o : Option Record) → at_found file gate o ≡ Err fault → at_record v d n file before s gate bytes o ≡ Err fault
-        by_record None is = let e : Damaged file (gate + 1) ≡ fault = cc is in ap Err e
-        by_record (Some r) is = absurd (cc is)
+reads_fault v d n file before s gate (mark ∷ bytes) fault is = grind (arith, common_steps, at_mark, at_gate, at_found, at_record)
 
 -- ---- an opening
 

@@ -6,7 +6,7 @@ use native.Mathlib.Decide.{ℕ_discrete}
 use lib.ListN.{get_elem?}
 use lib.Seq.{set-get_or}
 use prog.Atomic.{either}
-use Rattle.gts_lock.specs.Cited.{Act, Allows, Common, Compares, Draws, Final, Fits, FitsStage, Holding, Idle, InTurn, IsAmong, Joins, Live, Looks, MOST_TURNS, Me, NoneHolds, Raises, RaisesSome, Seen, SomeHolds, Spent, Splits, Stage, State, Step, View, Waiting, ended, entries, entries_under, gives, holding, keeps, marked, opening, rest, staged, step, stepped, takes, tickets}
+use Rattle.gts_lock.specs.Cited.{Allows, Common, Compares, Draws, Fits, FitsStage, Holding, Idle, InTurn, IsAmong, Live, Looks, MOST_TURNS, Me, NoneHolds, Raises, RaisesSome, SomeHolds, Spent, Stage, State, View, Waiting, ended, entries, entries_under, gives, holding, keeps, marked, staged, step, stepped, takes, tickets}
 use Rattle.atomic_table.proofs.Lists.{at_set, set_again}
 use Rattle.gts_lock.proofs.HistoryLemmas.{set_there, at_push, entries_push, under_same, under_other, starts_push, starts_same, starts_is, starts_between, ends_push}
 use Rattle.gts_lock.proofs.ViewsLemmas.{ticket_or, holds_not_idle, holds_not_waiting, one_seat, not_both, tickets_set, each_set, named_set, none_set, some_set}

@@ -1,6 +1,6 @@
 -- What is needed of each circuit under a directory that takes over, by the circuit's number.
 use Rattle.std.proofs.Common.{◌≡◌, ℕ, zero, suc, ◌+◌, ◌-◌, ◌<◌, ◌≤◌, Bool, true, false, not, cond, ◌==◌, nat_lt, List, [], ◌∷◌, length, map, get_or, take, drop, zip, ◌++◌, slice_get, Some, Result, Ok, Err, refl, sym, ap, ◌∙◌, arith, IfOk}
-use Rattle.gts_migrate.specs.Cited.{Circuit, CircuitNeed, CircuitState, Directory, Need, begun_circuit, brought, circuit_need, circuit_need_of, circuits_under, drawn, draws, each_brought, each_let_go, emptied, enumerate_from, has, is_circuit_sound, is_sound, kept_draws, last_of, list_all, unused, waiting}
+use Rattle.gts_migrate.specs.Cited.{Circuit, CircuitNeed, CircuitState, Directory, Need, begun_circuit, brought, circuit_need, circuit_need_of, circuits_under, each_brought, each_let_go, emptied, enumerate_from, has, is_circuit_sound, is_sound, last_of, list_all, unused}
 use Rattle.std.proofs.lemmas.Bool.{and_parts, lt-ltb}
 use Rattle.std.proofs.lemmas.List.Folds.{list_all_more}
 use Rattle.std.proofs.lemmas.Option.{slice_get-get_or}
@@ -10,6 +10,7 @@ use Rattle.std.proofs.lemmas.List.FromFn.{length-enumerate_from}
 use Rattle.gts_event.specs.declared.values.CircuitNeed as values_circuit
 use Rattle.gts_event.proofs.LawLemmas.{circuit-parts, sound-parts}
 use Rattle.gts_core.proofs.LawLemmas.{filter_whole}
+use Rattle.std.proofs.lemmas.Grind.{common_steps}
 
 -- ---- lists
 
@@ -27,16 +28,7 @@ positions_left (suc n) e (x ∷ xs) = positions_left n (e + 1) xs
 -- the need of a circuit under a row that keeps so many draws
 need_under : (count : ℕ) (c : CircuitNeed) → length c.kept ≤ c.draws → list_all (λ position. not (has c.kept position)) c.waiting ≡ true
     → circuit_need count (begun_circuit c) ≡ record c { kept = last_of count c.kept }
-need_under count c few apart =
-    let q : CircuitState = begun_circuit c in
-    let n : draws q ≡ c.draws = omega (arith, few) in
-    let w : waiting q ≡ c.waiting = filter_whole (λ position. not (has c.kept position)) c.waiting apart in
-    let p : map (λ draw. draw.1) (kept_draws count q) ≡ last_of count c.kept =
-    ap (λ (m : ℕ). map (λ draw. draw.1) (drop (m - count) (drawn q))) (length-enumerate_from (c.draws - length c.kept) c.kept)
-    ∙ positions_left (length c.kept - count) (c.draws - length c.kept) c.kept in
-    ap (λ (m : ℕ). record { draws = m; waiting = waiting q; kept = map (λ draw. draw.1) (kept_draws count q); owed = c.owed }) n
-    ∙ ap (λ (ws : List ℕ). record { draws = c.draws; waiting = ws; kept = map (λ draw. draw.1) (kept_draws count q); owed = c.owed }) w
-    ∙ ap (λ (ps : List ℕ). record { draws = c.draws; waiting = c.waiting; kept = ps; owed = c.owed }) p
+need_under count c few apart = grind (arith, common_steps, filter_whole, length-enumerate_from, positions_left)
 
 none_apart : (ps : List ℕ) → list_all (λ position. not (has [] position)) ps ≡ true
 none_apart [] = refl
@@ -82,9 +74,7 @@ sound_at : (n : Need) (old : List Circuit) (cs : List CircuitNeed) (c : ℕ) (ro
     → list_all (λ row. is_circuit_sound n row.0.kept row.1) (zip old cs) ≡ true → is_circuit_sound n row.kept (get_or cs c unused) ≡ true
 sound_at n [] cs c row e at h = absurd (cc)
 sound_at n (r ∷ old) [] c row e at h = absurd (omega (arith, e))
-sound_at n (r ∷ old) (q ∷ cs) zero row e at h =
-    let same : r ≡ row = cc in
-    ap (λ (x : Circuit). is_circuit_sound n x.kept q) (sym same) ∙ (and_parts (is_circuit_sound n r.kept q) (list_all (λ r. is_circuit_sound n r.0.kept r.1) (zip old cs)) h).0
+sound_at n (r ∷ old) (q ∷ cs) zero row e at h = grind (arith, common_steps, and_parts)
 sound_at n (r ∷ old) (q ∷ cs) (suc c) row e at h =
     sound_at n old cs c row (omega (arith, e)) at (and_parts (is_circuit_sound n r.kept q) (list_all (λ r. is_circuit_sound n r.0.kept r.1) (zip old cs)) h).1
 
@@ -127,9 +117,7 @@ length-under new old n = under_each new.circuits old.circuits n.circuits
 -- one circuit more was brought
 pub one_more : (found : List values_circuit.CircuitNeed) (made : values_circuit.CircuitNeed) (xs : List CircuitNeed) (c : ℕ) → map circuit_need_of found ≡ take c xs → c < length xs
     → circuit_need_of made ≡ get_or xs c unused → map circuit_need_of (found ++ made ∷ []) ≡ take (c + 1) xs
-one_more found made xs c is low at =
-    map-append circuit_need_of found (made ∷ []) ∙ ap (λ (ys : List CircuitNeed). ys ++ circuit_need_of made ∷ []) is
-    ∙ ap (λ (x : CircuitNeed). take c xs ++ x ∷ []) at ∙ sym (take_at_read xs c unused low).1
+one_more found made xs c is low at = grind (arith, common_steps, map-append, take_at_read)
 
 pub keep_more : (rows : List Circuit) (c : ℕ) (row : Circuit) → slice_get rows c ≡ Some row → c < length rows → 0 < row.kept
     → list_all (λ r. nat_lt 0 r.kept) (take c rows) ≡ true → list_all (λ r. nat_lt 0 r.kept) (take (c + 1) rows) ≡ true

@@ -1,6 +1,6 @@
 -- What is dropped has its receipts: bulletins and what waits ascend together, and each position that waits has its bulletin.
-use Rattle.std.proofs.Common.{◌≡◌, ◌⊎◌, inl, inr, ℕ, zero, suc, ◌+◌, ◌<◌, ◌≤◌, Bool, true, false, cond, ◌||◌, ◌==◌, nat_lt, zip, List, [], ◌∷◌, ◌++◌, length, map, get_or, take, drop, slice_get, Some, is_ok, refl, sym, ap, ap₂, subst, ◌∙◌, arith}
-use Rattle.gts_migrate.specs.Cited.{Bulletin, CanDrop, Circuit, CircuitNeed, CircuitState, Climbs, Directory, Dropped, IsNonDecreasing, IsStart, Need, Refused, SoundNeed, State, Waiting, all_owed_last, ascends, body_at, bulletin_of, circuit_need, circuit_need_of, circuit_needs, dropped_text, flat_map, has, have_bodies, heading_among, heading_of, is_bulletin, is_circuit_sound, is_there, list_all, need, need_of, on, positions_of, receipt_among, receipts_from, receipts_on, receipts_under, restarted, sayings, unused, waiting_at}
+use Rattle.std.proofs.Common.{◌≡◌, ◌⊎◌, inl, inr, ℕ, zero, suc, ◌+◌, ◌<◌, ◌≤◌, Bool, true, false, cond, ◌||◌, ◌==◌, nat_lt, zip, List, [], ◌∷◌, ◌++◌, length, map, get_or, take, drop, slice_get, Some, is_ok, refl, sym, ap, ap₂, ◌∙◌, arith}
+use Rattle.gts_migrate.specs.Cited.{Bulletin, CanDrop, Circuit, CircuitNeed, CircuitState, Climbs, Directory, Dropped, IsNonDecreasing, IsStart, Need, Refused, State, Waiting, all_owed_last, ascends, body_at, bulletin_of, circuit_need, circuit_need_of, circuit_needs, dropped_text, flat_map, has, have_bodies, heading_among, heading_of, is_bulletin, is_circuit_sound, is_there, list_all, need, need_of, on, positions_of, receipt_among, receipts_from, receipts_on, receipts_under, restarted, sayings, unused, waiting_at}
 use Rattle.std.proofs.lemmas.Bool.{and_parts, and_from, ltb-true, lt-ltb, eqb-true, eq-eqb, ne_eqb}
 use Rattle.std.proofs.lemmas.List.Sorted.{IsNonDecreasingBy-from_default}
 use Rattle.std.proofs.lemmas.List.Concat.{flat_map-cons}
@@ -12,6 +12,7 @@ use Rattle.gts_event.specs.declared.values.Need as need_values
 use Rattle.gts_event.specs.declared.values.Bulletin as values
 use Rattle.gts_event.proofs.LawLemmas.{sound-parts, circuit-parts, bulletin-parts, not_above}
 use Rattle.gts_recovery.proofs.LawLemmas.{over-restarted}
+use Rattle.std.proofs.lemmas.Grind.{common_steps}
 
 -- ---- numbers that ascend
 
@@ -160,20 +161,7 @@ part_at n (r ∷ rows) (q ∷ cs) (suc c) e h =
     part_at n rows cs c (omega (arith, e)) (and_parts (is_circuit_sound n r.kept q) (list_all (λ row. is_circuit_sound n row.0.kept row.1) (zip rows cs)) h).1
 
 pub can_drop : (n : Need) (c : ℕ) → IsStart n → CanDrop n.bulletins (waiting_at n c)
-can_drop n c start = elim (part_at n start.0.circuits n.circuits c p.same p.circuits) [
-  | inl found ↦
-      let s = circuit-parts n found.0 (get_or n.circuits c unused) found.1 in
-      let all = and_parts (list_all (is_there n.bulletins) (get_or n.circuits c unused).waiting) (list_all (is_there n.bulletins) (get_or n.circuits c unused).kept)
-      (sym (list_all-append (is_there n.bulletins) (get_or n.circuits c unused).waiting (get_or n.circuits c unused).kept) ∙ s.known) in
-      record { order = p.order; bodies = bodies; up = s.up; known = all.0 }
-  | inr none ↦ subst (λ (q : CircuitNeed). CanDrop n.bulletins q.waiting) (sym none) (record { order = p.order; bodies = bodies; up = refl; known = refl })
-]
-  where
-    p : SoundNeed start.0 n
-    p = sound-parts start.0 n start.1
-
-    bodies : have_bodies n.bulletins ≡ true
-    bodies = bodies_there start.0 n.accepted n.bulletins p.bodies
+can_drop n c start = grind (arith, common_steps, part_at, circuit-parts, and_parts, list_all-append, sound-parts, bodies_there)
 
 -- ---- the loops
 
@@ -193,14 +181,7 @@ bulletin_here (x ∷ bs) (suc i) b low is = bulletin_here bs i b (omega (arith, 
 pub one_more_receipt : (text : List ℕ) (f : Bulletin → List ℕ) (bs : List values.Bulletin) (i : ℕ) (b : values.Bulletin) → i < length bs → b ≡ get_or bs i b
     → (text ++ flat_map f (map bulletin_of (take i bs))) ++ f (bulletin_of b) ≡ text ++ flat_map f (map bulletin_of (take (i + 1) bs))
 one_more_receipt text f bs i b low is =
-    let more : take (i + 1) bs ≡ take i bs ++ b ∷ [] = (take_at_read bs i b low).1 ∙ ap (λ (x : values.Bulletin). take i bs ++ x ∷ []) (sym is) in
-    let single : flat_map f (bulletin_of b ∷ []) ≡ f (bulletin_of b) = flat_map-cons f (bulletin_of b) [] ∙ append-nil (f (bulletin_of b)) in
-    append_assoc text (flat_map f (map bulletin_of (take i bs))) (f (bulletin_of b))
-    ∙ ap (λ (l : List ℕ). text ++ l)
-    (ap (λ (l : List ℕ). flat_map f (map bulletin_of (take i bs)) ++ l) (sym single)
-    ∙ sym (flat_map-append f (map bulletin_of (take i bs)) (bulletin_of b ∷ []))
-    ∙ ap (λ (l : List Bulletin). flat_map f l) (sym (map-append bulletin_of (take i bs) (b ∷ [])))
-    ∙ ap (λ (l : List values.Bulletin). flat_map f (map bulletin_of l)) (sym more))
+    grind (arith, common_steps, take_at_read, flat_map-cons, append-nil, append_assoc, flat_map-append, map-append)
 
 -- no more circuits are left
 none_from : (k : ℕ) (bs : List Bulletin) (rows : List Circuit) → receipts_from k bs rows [] ≡ []
@@ -208,19 +189,14 @@ none_from k bs [] = refl
 none_from k bs (row ∷ rows) = refl
 
 none_under : (k : ℕ) (bs : List Bulletin) (row : Circuit) → receipts_under k bs row unused ≡ []
-none_under k bs row = go row.closed
-  where
-    go : (closed : Bool) → cond closed (receipts_on k bs []) [] ≡ []
-    go true = refl
-    go false = refl
+none_under k bs row = grind (arith, common_steps)
 
 -- one circuit more
 pub receipts_at : (k : ℕ) (bs : List Bulletin) (rows : List Circuit) (cs : List CircuitNeed) (c : ℕ) (row : Circuit) → slice_get rows c ≡ Some row
     → receipts_from k bs (drop c rows) (drop c cs) ≡ receipts_under k bs row (get_or cs c unused) ++ receipts_from (k + 1) bs (drop (suc c) rows) (drop (suc c) cs)
 receipts_at k bs [] cs c row there = absurd (cc)
 receipts_at k bs (r ∷ rows) [] zero row there = sym (ap₂ (λ (l m : List ℕ). l ++ m) (none_under k bs row) (none_from (k + 1) bs rows))
-receipts_at k bs (r ∷ rows) [] (suc c) row there =
-    none_from k bs (drop c rows) ∙ sym (ap₂ (λ (l m : List ℕ). l ++ m) (none_under k bs row) (none_from (k + 1) bs (drop (suc c) rows)))
+receipts_at k bs (r ∷ rows) [] (suc c) row there = grind (arith, common_steps, none_from, none_under)
 receipts_at k bs (r ∷ rows) (q ∷ cs) zero row there = let same : r ≡ row = cc in ap (λ (x : Circuit). receipts_under k bs x q ++ receipts_from (k + 1) bs rows cs) same
 receipts_at k bs (r ∷ rows) (q ∷ cs) (suc c) row there = receipts_at k bs rows cs c row there
 

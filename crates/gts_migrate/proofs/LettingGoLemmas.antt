@@ -8,6 +8,7 @@ use Rattle.gts_event.specs.declared.values.Need as need_values
 use Rattle.gts_event.proofs.LawLemmas.{sound-parts, sound-held, waiting-left}
 use Rattle.gts_recovery.proofs.LawLemmas.{held-over, over-restarted}
 use Rattle.gts_core.proofs.LawLemmas.{all_pass}
+use Rattle.std.proofs.lemmas.Grind.{common_steps}
 
 -- ---- the state
 
@@ -45,14 +46,7 @@ owes_let_go (r ∷ rows) (row ∷ gone) (q ∷ qs) h =
 
 -- a circuit that is emptied is held as before
 held_emptied : (s : State) (q : CircuitState) → HeldCircuit s.accepted s.count q → HeldCircuit s.accepted s.count (emptied q)
-held_emptied s q h = record {
-  few = let few = h.few in omega (arith, few);
-  up = tt;
-  once = h.once;
-  routed_there = refl;
-  taken_there = h.taken_there;
-  owes_few = h.owes_few;
-}
+held_emptied s q h = grind (arith, common_steps)
 
 held_each : (s : State) (rows : List Circuit) (qs : List CircuitState)
     → ((c : ℕ) → c < length qs → HeldCircuit s.accepted s.count (get_or qs c idle))
@@ -154,25 +148,13 @@ due-on new old s e o = due_each old.circuits new.circuits s.circuits o.circuits 
 
 none_closed_at : (rows : List Circuit) (c : ℕ) (row : Circuit) → slice_get rows c ≡ Some row
     → waiting_closed (drop c rows) [] ≡ waits_closed row unused + waiting_closed (drop (suc c) rows) []
-none_closed_at rows c row there =
-    let here = none_closed (drop c rows) in
-    let next = none_closed (drop (suc c) rows) in
-    let none : waits_closed row unused ≡ 0 = nothing row.closed in
-    omega (arith, here, next, none)
-  where
-    nothing : (closed : Bool) → cond {A = ℕ} closed 0 0 ≡ 0
-    nothing false = refl
-    nothing true = refl
+none_closed_at rows c row there = grind (arith, common_steps, none_closed)
 
 -- one circuit more was looked at
 pub closed_at : (rows : List Circuit) (cs : List CircuitNeed) (c : ℕ) (row : Circuit) → slice_get rows c ≡ Some row
     → waiting_closed (drop c rows) (drop c cs) ≡ waits_closed row (get_or cs c unused) + waiting_closed (drop (suc c) rows) (drop (suc c) cs)
 closed_at [] cs c row there = absurd (cc)
-closed_at (r ∷ rows) [] zero row there = none_there row.closed (none_closed rows)
-  where
-    none_there : (closed : Bool) → waiting_closed rows [] ≡ 0 → 0 ≡ cond closed 0 0 + waiting_closed rows []
-    none_there false e = omega (arith, e)
-    none_there true e = omega (arith, e)
+closed_at (r ∷ rows) [] zero row there = grind (arith, common_steps, none_closed)
 closed_at (r ∷ rows) [] (suc c) row there = none_closed_at rows c row there
 closed_at (r ∷ rows) (q ∷ cs) zero row there = let same : r ≡ row = cc in ap (λ (x : Circuit). waits_closed x q + waiting_closed rows cs) same
 closed_at (r ∷ rows) (q ∷ cs) (suc c) row there = closed_at rows cs c row there
@@ -183,25 +165,15 @@ none_first k (row ∷ rows) = refl
 
 none_first_at : (k : ℕ) (rows : List Circuit) (c : ℕ) (row : Circuit)
     → first_waiting k (drop c rows) [] ≡ cond (row.closed && nat_lt 0 0) (Some (k, 0)) (first_waiting (k + 1) (drop (suc c) rows) [])
-none_first_at k rows c row = none_first k (drop c rows) ∙ nothing row.closed (none_first (k + 1) (drop (suc c) rows))
-  where
-    nothing : (closed : Bool) → first_waiting (k + 1) (drop (suc c) rows) [] ≡ None → None ≡ cond (closed && nat_lt 0 0) (Some (k, 0)) (first_waiting (k + 1) (drop (suc c) rows) [])
-    nothing false e = sym e
-    nothing true e = sym e
+none_first_at k rows c row = grind (arith, common_steps, none_first)
 
 pub first_at : (k : ℕ) (rows : List Circuit) (cs : List CircuitNeed) (c : ℕ) (row : Circuit) → slice_get rows c ≡ Some row
     → first_waiting k (drop c rows) (drop c cs)
     ≡ cond (row.closed && nat_lt 0 (length (get_or cs c unused).waiting)) (Some (k, length (get_or cs c unused).waiting)) (first_waiting (k + 1) (drop (suc c) rows) (drop (suc c) cs))
 first_at k [] cs c row there = absurd (cc)
-first_at k (r ∷ rows) [] zero row there = none_there row.closed (none_first (k + 1) rows)
-  where
-    none_there : (closed : Bool) → first_waiting (k + 1) rows [] ≡ None → None ≡ cond (closed && nat_lt 0 0) (Some (k, 0)) (first_waiting (k + 1) rows [])
-    none_there false e = sym e
-    none_there true e = sym e
+first_at k (r ∷ rows) [] zero row there = grind (arith, common_steps, none_first)
 first_at k (r ∷ rows) [] (suc c) row there = none_first_at k rows c row
-first_at k (r ∷ rows) (q ∷ cs) zero row there =
-    let same : r ≡ row = cc in
-    ap (λ (x : Circuit). cond (x.closed && nat_lt 0 (length q.waiting)) (Some (k, length q.waiting)) (first_waiting (k + 1) rows cs)) same
+first_at k (r ∷ rows) (q ∷ cs) zero row there = grind (arith, common_steps)
 first_at k (r ∷ rows) (q ∷ cs) (suc c) row there = first_at k rows cs c row there
 
 -- something waits there

@@ -3,7 +3,7 @@ use Rattle.std.proofs.Common.{◌≡◌, ◌≢◌, inl, inr, ℕ, ◌+◌, ◌-
 use Rattle.std.proofs.lemmas.Bool.{cases_eq}
 use Rattle.std.proofs.Math.Nat.{add-mul}
 use Rattle.std.proofs.lemmas.List.{append-nil, map-append}
-use Rattle.gts_migrate.specs.Cited.{AnswersOpening, AnswersWaiting, Call, CanMigrate, Core, CountsFaults, CountsSays, Did, Directory, DiskFault, Dropped, EachSince, EndsAt, Files, FitsFor, Full, GivesRoomFor, HasFewDue, HasWritten, InHand, IsBrought, IsClosedAt, IsFront, IsImage, IsMigrated, IsOpenedAny, IsSynced, IsWriteFaultOf, LeavesBoth, LeavesFiles, LeavesOthers, MigrateFault, Need, Needs, NoMemory, OnlySyncs, Open, OpenFault, Opened, OpensWith, Outside, Refused, Rose, SayFault, SaysAll, SaysFor, StandsForAny, StandsOn, State, StationMeanings, Syncs, TakesOver, Version, Waiting, Waits, WorksBeside, WriteFault, begun, checkpoint_file, closed_gate, compacted_bytes, draw_size, due, file_opens, files_open_any, files_open_in, files_read, full_compacted, goes_on, is_sound, keeps_one, need, on, opened_of, opened_on, opens, opens_any, opens_in, restarted, said_by, seal_size, seen, selected, selected_bytes, selecting as selecting_at, unowed, version_of, write_fault, written}
+use Rattle.gts_migrate.specs.Cited.{AnswersOpening, AnswersWaiting, Call, CanMigrate, Core, CountsFaults, Did, Directory, DiskFault, Dropped, EachSince, Files, FitsFor, Full, GivesRoomFor, HasFewDue, HasWritten, InHand, IsBrought, IsClosedAt, IsFront, IsImage, IsMigrated, IsOpenedAny, IsSynced, IsWriteFaultOf, LeavesBoth, LeavesFiles, LeavesOthers, MigrateFault, Need, Needs, NoMemory, OnlySyncs, Open, OpenFault, Opened, OpensWith, Outside, Refused, SayFault, SaysAll, SaysFor, StandsForAny, StandsOn, State, StationMeanings, Syncs, TakesOver, Version, Waiting, Waits, WorksBeside, WriteFault, begun, checkpoint_file, closed_gate, compacted_bytes, draw_size, due, files_open_any, files_open_in, full_compacted, goes_on, is_sound, keeps_one, need, on, opened_of, opened_on, opens, opens_any, opens_in, restarted, said_by, seal_size, seen, selected, selected_bytes, selecting as selecting_at, unowed, version_of, write_fault, written}
 use Rattle.gts_traits.proofs.LawLemmas.{weaker, started, joined, told, said_is, synced_image}
 use Rattle.gts_event.proofs.LawLemmas.{restarted-left, sound-held}
 use Rattle.gts_migrate.proofs.LettingGoLemmas.{held-on, sound-on, on-restarted}
@@ -11,12 +11,12 @@ use Rattle.gts_opening.proofs.LawLemmas.{checkpoint_opened, room_for, due-left, 
 use Rattle.gts_journal.proofs.LawLemmas.{both_left, same_stands}
 use Rattle.gts_recovery.proofs.LawLemmas.{still_stands}
 use Rattle.gts_checkpoint.specs.declared.fault.WriteFault.TheVariants as writes
+use Rattle.std.proofs.lemmas.Grind.{common_steps}
 
 -- ---- what files open to
 
 opens_from : (v : Version) (d : Directory) (files : Files) (s : State) (used : ℕ) → files_open_in v d files ≡ Ok (s, used) → opens_in v d files ≡ Ok (need d (restarted d s))
-opens_from v d files s used e =
-    ap (λ (o : Opened). elim o as (λ _. Result Need OpenFault) [ Err fault ↦ Err fault | Ok opened ↦ Ok (need d (restarted d opened.0)) ]) e
+opens_from v d files s used e = grind (arith, common_steps)
 
 -- a state and the need that the files open to are of one another
 pub opens_to_need : (d : Directory) (files : Files) (s : State) (used : ℕ) → files_open_any d files ≡ Ok (s, used) → opens_any d files ≡ Ok (need d (restarted d s))
@@ -25,16 +25,7 @@ opens_to_need d files s used e = opens_from (version_of (selected_bytes files)) 
 -- files of which the old one is selected
 opens_old_at : (old : Directory) (s : State) (calls : List Call) (j : InHand) → StandsForAny old s calls j
     → (files : Files) → selected files ≡ j.file → files j.file ≡ seen calls j.file → opens_any old files ≡ Ok (need old (restarted old s))
-opens_old_at old s calls j g files at same =
-    let version_here : version_of (seen calls j.file) ≡ j.version =
-    ap (λ (k : ℕ). version_of (seen calls k)) (sym g.stands.selected_is) ∙ sym g.version_is in
-    let file_here : file_opens j.version old j.file (seen calls j.file) ≡ Ok (s, j.gate + 1, j.seal) =
-    ap (λ (k : ℕ). file_opens j.version old k (seen calls k)) (sym g.stands.selected_is) ∙ g.opens_to in
-    let bytes : selected_bytes files ≡ seen calls j.file = ap files at ∙ same in
-    let version : version_of (selected_bytes files) ≡ j.version = ap version_of bytes ∙ version_here in
-    let read : files_read j.version old files ≡ Ok (s, j.gate + 1, j.seal) =
-    ap (λ (k : ℕ). file_opens j.version old k (files k)) at ∙ ap (file_opens j.version old j.file) same ∙ file_here in
-    ap (λ (v : Version). opens_in v old files) version ∙ opens_from j.version old files s (j.gate + 1) (ap opened_of read)
+opens_old_at old s calls j g files at same = grind (arith, common_steps, opens_from)
 
 -- ---- what is said meanwhile
 
@@ -53,29 +44,15 @@ pub record Spoken (bytes : List ℕ) (mid spoken : List Call) : Type 0 where
   pub synced : (k : ℕ) → IsSynced mid k → IsSynced spoken k
 
 pub spoke : (bytes : List ℕ) (done : Unit {0}) (mid spoken : List Call) → SaysAll {E = MigrateFault} bytes (Ok done) mid spoken → Spoken bytes mid spoken
-spoke bytes done mid spoken (inl idle) =
-    subst (λ (l : List Call). Spoken bytes mid l) (sym idle.1) (record {
-      said = sym (ap (λ (l : List ℕ). said_by mid ++ on 0 l) idle.0 ∙ append-nil (said_by mid));
-      files = λ k. refl;
-      synced = λ k is. is;
-    })
-spoke bytes done mid spoken (inr is) =
-    subst (λ (l : List Call). Spoken bytes mid l) (sym is) (record {
-      said = refl;
-      files = λ k. refl;
-      synced = λ k was. record { same = was.same; untouched = λ p. was.untouched p };
-    })
+spoke bytes done mid spoken (inl idle) = grind (arith, common_steps, append-nil)
+spoke bytes done mid spoken (inr is) = grind (arith, common_steps)
 
 -- the journal stands where it stood, and the other file is closed as it was
 pub stands_spoken : (bytes : List ℕ) (mid spoken : List Call) (j : InHand) → Spoken bytes mid spoken → StandsOn mid j → StandsOn spoken j
-stands_spoken bytes mid spoken j sp stands =
-    same_stands mid spoken j (sp.files 2, sp.synced 2 stands.selector_synced) (sp.files j.file, sp.synced j.file stands.file_synced) stands
+stands_spoken bytes mid spoken j sp stands = grind (arith, common_steps, same_stands)
 
 pub closed_spoken : (bytes : List ℕ) (mid spoken : List Call) (j : InHand) (file used : ℕ) → Spoken bytes mid spoken → IsClosedAt mid j file used → IsClosedAt spoken j file used
-closed_spoken bytes mid spoken j file used sp closed = record {
-  synced = sp.synced file closed.synced;
-  ends = subst (λ (l : List ℕ). EndsAt (take (used - 1) l) l) (sym (sp.files file)) closed.ends;
-}
+closed_spoken bytes mid spoken j file used sp closed = grind (arith, common_steps)
 
 -- ---- while the journal is taken over
 
@@ -211,8 +188,7 @@ front_on left bytes front = (on 0 front.0, ap (on 0) front.1 ∙ map-append (λ 
 pub said_part : (bytes : List ℕ) (fault : MigrateFault) (calls mid spoken : List Call) → said_by mid ≡ said_by calls → SaysAll {T = Unit {0}} bytes (Err fault) mid spoken
     → SaysFor (Err SayFault) (on 0 bytes) calls spoken
 said_part bytes fault calls mid spoken same (inl idle) = absurd (let e : false ≡ true = idle.2 in cc e)
-said_part bytes fault calls mid spoken same (inr (inl idle)) =
-    ([], (on 0 bytes, refl), ap said_by idle ∙ same ∙ sym (append-nil (said_by calls)))
+said_part bytes fault calls mid spoken same (inr (inl idle)) = grind (arith, common_steps, append-nil)
 said_part bytes fault calls mid spoken same (inr (inr broke)) =
     (on 0 broke.0, front_on broke.0 bytes broke.1, ap said_by broke.2 ∙ ap (λ (o : Outside). o ++ on 0 broke.0) same)
 
@@ -317,10 +293,7 @@ waiting_after Refused (Err NoMemory) found kind none = tt
 waiting_after Dropped (Ok done) found kind none = λ is. is
 waiting_after Dropped (Err (Open e)) found kind none = λ is. is
 waiting_after Dropped (Err (Waits c count)) found kind none = absurd kind
-waiting_after Dropped (Err (Full at wanted limit)) found kind none = λ is. is
-waiting_after Dropped (Err DiskFault) found kind none = λ is. is
-waiting_after Dropped (Err SayFault) found kind none = λ is. is
-waiting_after Dropped (Err NoMemory) found kind none = λ is. is
+waiting_after Dropped _ found kind none = λ is. is
 
 -- the files opened
 pub opening_after : (result : Result (Unit {0}) MigrateFault) (opened : Result Need OpenFault) (n : Need) → IfErr result IsWriteFaultOf → opened ≡ Ok n → AnswersOpening result opened
@@ -328,9 +301,7 @@ opening_after (Ok done) opened n kind is = (n, is)
 opening_after (Err (Open e)) opened n kind is = absurd kind
 opening_after (Err (Waits c count)) opened n kind is = absurd kind
 opening_after (Err (Full at wanted limit)) opened n kind is = absurd kind
-opening_after (Err DiskFault) opened n kind is = (n, is)
-opening_after (Err SayFault) opened n kind is = (n, is)
-opening_after (Err NoMemory) opened n kind is = (n, is)
+opening_after _ opened n kind is = (n, is)
 
 -- where there was no memory, nothing was written
 pub told_after : {P : Type 0} (calls : P → List Call) (result : Result (Unit {0}) MigrateFault) (old mid new : P) → IfErr result IsWriteFaultOf → (IsErrOf result NoMemory → new ≡ mid)
@@ -382,9 +353,4 @@ silent_by result text before after none said = go result (subst (λ (o : Outside
 -- counts of faults, seen from before the opening, which left them as they were
 pub counts_after : {P : Type 0} (station : StationMeanings P) (result : Result (Unit {0}) MigrateFault) (old mid new : P) → station.disk_faults mid ≡ station.disk_faults old
     → station.say_faults mid ≡ station.say_faults old → CountsFaults station result mid new → CountsFaults station result old new
-counts_after station result old mid new disk say counts = record {
-  later = omega (arith, disk, counts.later);
-  failed = λ is. subst (λ (k : ℕ). Rose k (station.disk_faults new)) disk (counts.failed is);
-  sound = subst (λ (k : ℕ). OnOk result (station.disk_faults new ≡ k)) disk counts.sound;
-  say = subst (λ (k : ℕ). CountsSays result k (station.say_faults new)) say counts.say;
-}
+counts_after station result old mid new disk say counts = grind (arith, common_steps)

@@ -5,6 +5,7 @@ use Rattle.std.proofs.lemmas.List.{append-nil}
 use Rattle.std.proofs.lemmas.List.Elements.{filter-append}
 use Rattle.std.proofs.lemmas.List.Sums.{sum_by-cons}
 use Rattle.gts_prioq.specs.Cited.{AllAbove, AllBelow, AreWaiting, Ascends, GoesNext, NothingWaits, PutsAt, TakesNext, Waiting, at_level, count_of, goes_before, is_first_of, list_all, list_any, next_of, sum_by, without}
+use Rattle.std.proofs.lemmas.Grind.{common_steps}
 
 -- whether a number stands in a list
 abbrev pub has : List ℕ → ℕ → Bool
@@ -102,19 +103,7 @@ or_true false = refl
 
 -- what doesn't go before something
 not_before : (level : ℕ → ℕ) (p q : ℕ) → not (goes_before level p q) ≡ true → (level q ≤ level p) × (level p ≡ level q → q ≤ p)
-not_before level p q refused = (least, tied)
-  where
-    least : level q ≤ level p
-    least = elim (nat_lt (level p) (level q)) as (λ b. nat_lt (level p) (level q) ≡ b → not (b || ((level p == level q) && nat_lt p q)) ≡ true → level q ≤ level p) [
-      | true ↦ λ e h. absurd (true≢false (sym h))
-      | false ↦ λ e h. ltb-false (level p) (level q) e
-    ] refl refused
-
-    tied : level p ≡ level q → q ≤ p
-    tied same = elim (nat_lt p q) as (λ b. nat_lt p q ≡ b → not (nat_lt (level p) (level q) || ((level p == level q) && b)) ≡ true → q ≤ p) [
-      | true ↦ λ e h. absurd (true≢false (sym h ∙ ap (λ b. not (nat_lt (level p) (level q) || (b && true))) (eq-eqb (level p) (level q) same) ∙ or_true (nat_lt (level p) (level q))))
-      | false ↦ λ e h. ltb-false p q e
-    ] refl refused
+not_before level p q refused = grind (arith, common_steps, ltb-false, eq-eqb, or_true)
 
 and_false : (b : Bool) → not (b && false) ≡ true
 and_false true = refl
@@ -122,12 +111,7 @@ and_false false = refl
 
 -- what comes behind on a level, or waits on a greater one, doesn't go before
 is_not_before : (level : ℕ → ℕ) (p q : ℕ) → level q ≤ level p → (level p ≡ level q → q ≤ p) → not (goes_before level p q) ≡ true
-is_not_before level p q least tied =
-    ap (λ b. not (b || ((level p == level q) && nat_lt p q))) (le-ltb (level p) (level q) least)
-    ∙ elim (cases_eq (level p) (level q)) [
-      | inl same ↦ ap (λ b. not ((level p == level q) && b)) (le-ltb p q (tied same)) ∙ and_false (level p == level q)
-      | inr other ↦ ap (λ b. not (b && nat_lt p q)) (not_same (level p) (level q) other)
-    ]
+is_not_before level p q least tied = grind (arith, common_steps, le-ltb, cases_eq, and_false, not_same)
 
 -- what goes next is that before which no other goes
 pub next_of-GoesNext : (level : ℕ → ℕ) (positions : List ℕ) (w : Waiting) (position : ℕ) → Ascends positions → AreWaiting level positions w → GoesNext w position → next_of level positions ≡ Some position
@@ -174,48 +158,20 @@ none_waits level (x ∷ xs) w are none =
 
 -- what waits after a position was put
 pub AreWaiting-put : (level : ℕ → ℕ) (positions : List ℕ) (old new : Waiting) (position : ℕ) → AreWaiting level positions old → PutsAt old new (level position) position → AreWaiting level (positions ++ position ∷ []) new
-AreWaiting-put level positions old new position are puts l =
-    elim (cases_eq l (level position)) [
-      | inl same ↦ subst (λ (l : ℕ). at_level new l ≡ filter (λ p. level p == l) (positions ++ position ∷ [])) (sym same)
-          (puts.put ∙ ap (λ (xs : List ℕ). xs ++ position ∷ []) (are (level position))
-          ∙ ap (λ b. filter (λ p. level p == level position) positions ++ cond b (position ∷ []) []) (sym (eq-eqb (level position) (level position) refl))
-          ∙ sym (filter-append (λ p. level p == level position) positions (position ∷ [])))
-      | inr other ↦
-          puts.others l other ∙ are l ∙ sym (append-nil (filter (λ p. level p == l) positions))
-          ∙ ap (λ b. filter (λ p. level p == l) positions ++ cond b (position ∷ []) []) (sym (not_same (level position) l (λ e. other (sym e))))
-          ∙ sym (filter-append (λ p. level p == l) positions (position ∷ []))
-    ]
+AreWaiting-put level positions old new position are puts l = grind (arith, common_steps, cases_eq, eq-eqb, filter-append, append-nil, not_same)
 
 -- two filters in either order
 filter-filter : (p q : ℕ → Bool) (xs : List ℕ) → filter p (filter q xs) ≡ filter q (filter p xs)
 filter-filter p q [] = refl
-filter-filter p q (x ∷ xs) =
-    elim (p x) as (λ b. p x ≡ b → filter p (cond (q x) (x ∷ filter q xs) (filter q xs)) ≡ filter q (cond b (x ∷ filter p xs) (filter p xs))) [
-      | true ↦ λ e. elim (q x) as (λ c. q x ≡ c → filter p (cond c (x ∷ filter q xs) (filter q xs)) ≡ filter q (x ∷ filter p xs)) [
-        | true ↦ λ f. ap (λ b. cond b (x ∷ filter p (filter q xs)) (filter p (filter q xs))) e ∙ ap (λ (ys : List ℕ). x ∷ ys) (filter-filter p q xs) ∙ sym (ap (λ b. cond b (x ∷ filter q (filter p xs)) (filter q (filter p xs))) f)
-        | false ↦ λ f. filter-filter p q xs ∙ sym (ap (λ b. cond b (x ∷ filter q (filter p xs)) (filter q (filter p xs))) f)
-      ] refl
-      | false ↦ λ e. elim (q x) as (λ c. filter p (cond c (x ∷ filter q xs) (filter q xs)) ≡ filter q (filter p xs)) [
-        | true ↦ ap (λ b. cond b (x ∷ filter p (filter q xs)) (filter p (filter q xs))) e ∙ filter-filter p q xs
-        | false ↦ filter-filter p q xs
-      ]
-    ] refl
+filter-filter p q (x ∷ xs) = grind (arith, common_steps, filter-filter p q xs)
 
 without-above : (p : ℕ) (xs : List ℕ) → AllAbove p xs → without p xs ≡ xs
 without-above p [] above = refl
-without-above p (x ∷ xs) above =
-    let apart : x ≢ p = omega (arith, above.0) in
-    ap (λ b. cond (not b) (x ∷ without p xs) (without p xs)) (not_same x p apart) ∙ ap (λ (ys : List ℕ). x ∷ ys) (without-above p xs above.1)
+without-above p (x ∷ xs) above = grind (arith, common_steps, not_same, without-above p xs above.1)
 
 without-level : (level : ℕ → ℕ) (p l : ℕ) (xs : List ℕ) → level p ≢ l → without p (filter (λ q. level q == l) xs) ≡ filter (λ q. level q == l) xs
 without-level level p l [] other = refl
-without-level level p l (x ∷ xs) other =
-    elim (nat_eq (level x) l) as (λ b. nat_eq (level x) l ≡ b → without p (cond b (x ∷ filter (λ q. level q == l) xs) (filter (λ q. level q == l) xs)) ≡ cond b (x ∷ filter (λ q. level q == l) xs) (filter (λ q. level q == l) xs)) [
-      | true ↦ λ e.
-          let apart : x ≢ p = λ same. other (ap level (sym same) ∙ eqb-true (level x) l e) in
-          ap (λ b. cond (not b) (x ∷ without p (filter (λ q. level q == l) xs)) (without p (filter (λ q. level q == l) xs))) (not_same x p apart) ∙ ap (λ (ys : List ℕ). x ∷ ys) (without-level level p l xs other)
-      | false ↦ λ e. without-level level p l xs other
-    ] refl
+without-level level p l (x ∷ xs) other = grind (arith, common_steps, eqb-true, not_same, without-level level p l xs other)
 
 -- what waits after a position was taken
 pub AreWaiting-taken : (level : ℕ → ℕ) (positions : List ℕ) (old new : Waiting) (position : ℕ) → Ascends positions → AreWaiting level positions old → TakesNext old new position → AreWaiting level (without position positions) new
@@ -284,8 +240,7 @@ count_above level k (xs ∷ levels) positions are =
 filter-all : (passes : ℕ → Bool) (xs : List ℕ) → ((n : ℕ) → has xs n ≡ true → passes n ≡ true) → filter passes xs ≡ xs
 filter-all passes [] each = refl
 filter-all passes (x ∷ xs) each =
-    ap (λ b. cond b (x ∷ filter passes xs) (filter passes xs)) (each x (has-first x xs))
-    ∙ ap (λ (ys : List ℕ). x ∷ ys) (filter-all passes xs (λ n here. each n (elim (nat_eq x n) as (λ b. (b || has xs n) ≡ true) [ true ↦ refl | false ↦ here ])))
+    grind (arith, common_steps, has-first, filter-all passes xs (λ n here. each n (elim (nat_eq x n) as (λ b. (b || has xs n) ≡ true) [ true ↦ refl | false ↦ here ])))
 
 -- each position counts once
 pub count_of-AreWaiting : (level : ℕ → ℕ) (positions : List ℕ) (w : Waiting) → AreWaiting level positions w → count_of w ≡ length positions

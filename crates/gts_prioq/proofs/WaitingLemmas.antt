@@ -5,6 +5,7 @@ use Rattle.std.proofs.Math.Seq.{map-set_same}
 use Rattle.std.proofs.lemmas.List.Sums.{sum_by-set}
 use Rattle.std.proofs.lemmas.Bool.{true≢false, cases_eq, eqb-true, eqb-false}
 use Rattle.gts_prioq.specs.Cited.{Global, GoesNext, IsFirstFilled, TakesNext, VecDeque, at_level, count_of, items_at, items_of, room_of, spare, sum_by, waiting_in}
+use Rattle.std.proofs.lemmas.Grind.{common_steps}
 
 abbrev pub Queue : Type 0
 Queue = VecDeque ℕ Global
@@ -59,15 +60,11 @@ smaller_levels queues i level e none (suc l) less = none l (omega arith)
 
 -- a queue that says that it is empty
 pub empty_queue : (queues : List Queue) (i : ℕ) (queue : Queue) → i < length queues → queue ≡ get_or queues i queue → (queue.len == 0) ≡ true → items_at queues i ≡ []
-empty_queue queues i queue inside here empty =
-    get_or-map items_of queues i queue [] inside ∙ ap items_of (sym here) ∙ no_items queue.items (omega (arith, queue.ok.0, eqb-true queue.len 0 empty))
+empty_queue queues i queue inside here empty = grind (arith, common_steps, get_or-map, no_items, eqb-true)
 
 -- a queue that says that it isn't empty
 pub filled_queue : (queues : List Queue) (i : ℕ) (queue : Queue) → i < length queues → queue ≡ get_or queues i queue → (queue.len == 0) ≡ false → (x : ℕ) × (behind : List ℕ) × (items_at queues i ≡ x ∷ behind)
-filled_queue queues i queue inside here filled =
-    let some_wait : queue.len ≢ 0 = eqb-false queue.len 0 filled in
-    let some = some_items queue.items (omega (arith, queue.ok.0)) in
-    (some.0, some.1, get_or-map items_of queues i queue [] inside ∙ ap items_of (sym here) ∙ some.2)
+filled_queue queues i queue inside here filled = grind (arith, common_steps, eqb-false, some_items, get_or-map)
 
 -- a level and its queue have the same positions
 pub level-items : (queues : List Queue) (i : ℕ) → at_level (waiting_in queues) (i + 1) ≡ items_at queues i

@@ -4,6 +4,8 @@ use Rattle.std.proofs.lemmas.List.{append-nil}
 use Rattle.gts_receiver.specs.Cited.{AddsEntries, AddsFault, AddsJust, Answers, DiskFault, Done, Entry, Event, Full, GoesOn, Hears, IsSpent, NoMemory, Outcome, SayFault, SaysNoMore, Seen, Spent, State, Stopped, SwitchFault, TriesOn, all_done, fault_entries, outcome, own, settled, settled_own}
 use Rattle.gts_calls.proofs.LawLemmas.{just, own_added, own_spent, goes_further}
 use Rattle.gts_receiver.proofs.SettledLemmas.{settled_all, none_settled, own_settled, answers_go}
+use Rattle.std.proofs.lemmas.Grind.{common_steps}
+use Rattle.std.proofs.Common.{arith}
 
 -- what was done adds its entry
 done_adds : (event : Event) (o : Outcome) (old new : Seen) → Answers old event SaysNoMore (Ok o) new → AddsJust old (Done event) new
@@ -11,9 +13,7 @@ done_adds event o old new answers = just old new (Done event ∷ []) (λ (s : St
 
 -- it is among those that are no tries
 pub done_settles : (w : Bool) (event : Event) (o : Outcome) (old new : Seen) → Hears w event (Ok o) old new → settled_own w new ≡ settled_own w old ++ all_done (event ∷ [])
-done_settles w event o old new h =
-    own_settled w h.before new (Done event ∷ []) (done_adds event o h.before new h.answers) ∙ ap (λ (l : List Entry). settled_own w h.before ++ l) (settled_all w (event ∷ []))
-    ∙ ap (λ (l : List Entry). l ++ Done event ∷ []) h.tried
+done_settles w event o old new h = grind (arith, common_steps, own_settled, done_adds, settled_all)
 
 pub hears_go : (w : Bool) (event : Event) (answer : Result Outcome SwitchFault) (old new : Seen) → Hears w event answer old new → GoesOn old new
 hears_go w event answer old new h = goes_further old h.before new h.desk (answers_go event answer h.before new h.answers)

@@ -4,6 +4,7 @@ use Rattle.std.proofs.lemmas.List.{append-nil}
 use Rattle.std.proofs.lemmas.List.Elements.{filter-append}
 use Rattle.gts_receiver.specs.Cited.{AddsAny, AddsEntries, AddsJust, Answers, AreMost, Device, DiskFault, Done, Doubt, Entry, Event, FrameField, Full, GoesOn, Heard, Hears, Idle, Kind, Lost, NoMemory, Outcome, SayFault, SaysNoMore, Seen, Spent, State, Stopped, SwitchFault, Taken, TriesOn, Unsaid, all_done, is_try, is_wanting, outcome, own, settled, settled_own}
 use Rattle.gts_calls.proofs.LawLemmas.{just, own_added, turned, own_any, goes_on, goes_on_spent, goes_further}
+use Rattle.std.proofs.lemmas.Grind.{common_steps}
 
 pub settled-append : (w : Bool) (xs ys : List Entry) → settled w (xs ++ ys) ≡ settled w xs ++ settled w ys
 settled-append true xs ys = filter-append (λ (e : Entry). not (is_try e)) xs ys
@@ -28,11 +29,7 @@ any_settled w old new more adds = ap (settled w) (own_any old new more adds) ∙
 
 -- a try is left out
 one_try : (before now : Seen) (entry : Entry) → is_try entry ≡ true → AddsJust before entry now → settled_own true now ≡ settled_own true before
-one_try before now entry is adds =
-    own_settled true before now (entry ∷ []) adds ∙ ap (λ (l : List Entry). settled_own true before ++ l) (left_out entry is) ∙ append-nil (settled_own true before)
-  where
-    left_out : (e : Entry) → is_try e ≡ true → settled true (e ∷ []) ≡ []
-    left_out e is = rw is refl
+one_try before now entry is adds = grind (arith, common_steps, own_settled, append-nil)
 
 one_added : (before now : Seen) (entry : Entry) (tries : ℕ) → AddsJust before entry now → tries ≤ before.turns → tries + 1 ≤ now.turns
 one_added before now entry tries adds few = omega (arith, few, turned before now (entry ∷ []) adds)

@@ -1,10 +1,11 @@
 -- A checkpoint is written to the file that isn't the journal's.
-use Rattle.std.proofs.Common.{◌≡◌, ◌≢◌, ℕ, ◌-◌, ◌<◌, List, [], ◌∷◌, ◌++◌, length, take, refl, sym, ap, subst, arith, length-append}
+use Rattle.std.proofs.Common.{◌≡◌, ℕ, ◌-◌, ◌<◌, List, [], ◌∷◌, ◌++◌, length, take, refl, sym, ap, arith, length-append}
 use Rattle.std.proofs.lemmas.List.{take_at}
 use Rattle.gts_recovery.specs.Cited.{Call, EndsAt, HasWritten, InHand, IsClosedAt, Need, StandsOn, WorksBeside, checkpoint_file, checkpoint_text, closed_gate, compacted_bytes, first_seal, magic, open_gate, sealed, written}
 use Rattle.gts_record.proofs.LawLemmas.{length-sealed}
 use Rattle.gts_opening.proofs.LawLemmas.{magic_size}
 use Rattle.gts_journal.proofs.LawLemmas.{same_stands}
+use Rattle.std.proofs.lemmas.Grind.{common_steps}
 
 -- it ends at the closed gate behind the checkpoint
 pub ends_there : (mark : List ℕ) (n : Need) (used : ℕ) → length mark ≡ 32 → used ≡ compacted_bytes written n
@@ -21,15 +22,8 @@ ends_there mark n used long size =
 
 -- so it does once it is written
 pub closed_there : (mark : List ℕ) (n : Need) (file : ℕ) (mid : List Call) (j : InHand) (used : ℕ) → HasWritten mark n file mid → length mark ≡ 32 → used ≡ compacted_bytes written n → IsClosedAt mid j file used
-closed_there mark n file mid j used wrote long size =
-    let E : List ℕ → Type 0 = λ l. EndsAt (take (used - 1) l) l in
-    record { synced = wrote.synced file; ends = subst E (sym wrote.text) (ends_there mark n used long size) }
+closed_there mark n file mid j used wrote long size = grind (arith, common_steps, ends_there)
 
 -- the journal stands where it stood while the other file is written, also where nobody knows what it stands for
 pub still_stands : (calls mid : List Call) (j : InHand) → StandsOn calls j → j.file < 2 → WorksBeside (1 - j.file) calls mid → StandsOn mid j
-still_stands calls mid j stands low beside =
-    let not_other : j.file ≢ 1 - j.file = λ e. omega (arith, e, low) in
-    let not_selector : 2 ≢ 1 - j.file = λ e. omega (arith, e, low) in
-    same_stands calls mid j
-    (beside.seen 2 not_selector, beside.synced 2 not_selector stands.selector_synced)
-    (beside.seen j.file not_other, beside.synced j.file not_other stands.file_synced) stands
+still_stands calls mid j stands low beside = grind (arith, common_steps, same_stands)

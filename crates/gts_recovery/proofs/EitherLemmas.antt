@@ -1,7 +1,9 @@
 -- A journal that is opened in the version that its magic tells is never one of an older version.
-use Rattle.std.proofs.Common.{◌≡◌, ℕ, zero, suc, ◌+◌, ◌-◌, Bool, true, false, ◌==◌, nat_eq, nat_lt, List, [], ◌∷◌, length, take, drop, cond, Option, Some, None, Result, Ok, Err, refl, sym, subst, IfErr}
-use Rattle.gts_recovery.specs.Cited.{Damaged, Directory, DiskFault, Files, IsAnswer, Need, NoJournal, NoMemory, NotThis, OldVersion, One, OpenFault, Read, Record, State, Two, Version, admits_checkpoint, after, agreeing, begun, behind_header, behind_magic, bytes_open, checkpoint_opens, checkpoint_text, compacted_bytes, empty, event_of_record, file_opens, first_seal, is_older, magic, need, need_in, open_gate, opened_of, opens_any, pointwise, record_behind, record_size, record_text, records_at, restarted, seal, selected, selected_bytes, starts_with, version_of}
+use Rattle.std.proofs.Common.{◌≡◌, ℕ, zero, suc, ◌+◌, ◌-◌, Bool, true, false, ◌==◌, nat_eq, nat_lt, List, [], ◌∷◌, length, take, drop, Option, Some, None, Result, Ok, Err, subst, IfErr}
+use Rattle.gts_recovery.specs.Cited.{Damaged, Directory, DiskFault, Files, IsAnswer, Need, NoJournal, NoMemory, NotThis, OldVersion, OpenFault, Read, Record, State, Version, admits_checkpoint, after, begun, behind_header, behind_magic, checkpoint_opens, checkpoint_text, compacted_bytes, empty, event_of_record, file_opens, first_seal, is_older, need, need_in, open_gate, opened_of, opens_any, pointwise, record_behind, record_size, record_text, records_at, restarted, seal, selected, selected_bytes, version_of}
 use Rattle.std.proofs.lemmas.Result.{IfErr-weaker}
+use Rattle.std.proofs.lemmas.Grind.{common_steps}
+use Rattle.std.proofs.Common.{arith}
 
 -- no older version is answered
 abbrev pub NotOlder : {A : Type 0} → Result A OpenFault → Type 0
@@ -69,38 +71,16 @@ magic_not v d file bytes = by_size (nat_lt (length bytes) 40)
 
 -- the version of the magic is no newer one
 own_version : (bytes : List ℕ) → is_older (version_of bytes) bytes ≡ false
-own_version bytes = by_first (starts_with nat_eq bytes (magic One)) refl
-  where
-    by_first : (b : Bool) → b ≡ starts_with nat_eq bytes (magic One) → is_older (cond b One Two) bytes ≡ false
-    by_first true e = refl
-    by_first false e = sym e
+own_version bytes = grind (arith, common_steps)
 
 file_not : (d : Directory) (file : ℕ) (bytes : List ℕ) → NotOlder (file_opens (version_of bytes) d file bytes)
-file_not d file bytes = by_none (length bytes == 0)
-  where
-    by_magic : (b : Bool) → NotOlder (elim b as (λ _. Read) [ false ↦ Err (Damaged file (agreeing (magic (version_of bytes)) bytes)) | true ↦ behind_magic (version_of bytes) d file bytes ])
-    by_magic false = tt
-    by_magic true = magic_not (version_of bytes) d file bytes
-
-    by_age : (b : Bool) → b ≡ false → NotOlder (elim b as (λ _. Read) [
-      | true ↦ Err OldVersion
-      | false ↦ elim (starts_with nat_eq bytes (magic (version_of bytes))) as (λ _. Read) [ false ↦ Err (Damaged file (agreeing (magic (version_of bytes)) bytes)) | true ↦ behind_magic (version_of bytes) d file bytes ]
-    ])
-    by_age true e = absurd (cc)
-    by_age false e = by_magic (starts_with nat_eq bytes (magic (version_of bytes)))
-
-    by_none : (b : Bool) → NotOlder (elim b as (λ _. Read) [ true ↦ Err NoJournal | false ↦ bytes_open (version_of bytes) d file bytes ])
-    by_none true = tt
-    by_none false = by_age (is_older (version_of bytes) bytes) (own_version bytes)
+file_not d file bytes = grind (arith, common_steps, magic_not, own_version)
 
 of_read : (d : Directory) (r : Read) → NotOlder r → NotOlder (elim (opened_of r) as (λ _. Result Need OpenFault) [ Err fault ↦ Err fault | Ok opened ↦ Ok (need d (restarted d opened.0)) ])
 of_read d (Ok read) h = tt
 of_read d (Err NoJournal) h = tt
 of_read d (Err OldVersion) h = absurd h
-of_read d (Err (NotThis want found)) h = tt
-of_read d (Err (Damaged file at)) h = tt
-of_read d (Err DiskFault) h = tt
-of_read d (Err NoMemory) h = tt
+of_read d _ h = tt
 
 pub never_older : (d : Directory) (files : Files) → opens_any d files ≡ Err OldVersion → ⊥
 never_older d files e =

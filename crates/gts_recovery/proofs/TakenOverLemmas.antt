@@ -1,22 +1,19 @@
 -- What a need brings under a directory that takes over from its own.
-use Rattle.std.proofs.Common.{◌≡◌, ℕ, zero, suc, ◌+◌, ◌<◌, ◌≤◌, Bool, true, false, not, cond, ◌||◌, ◌==◌, nat_lt, List, [], ◌∷◌, length, map, filter, get_or, slice_get, Some, zip, refl, sym, ap, ◌∙◌, arith}
-use Rattle.gts_recovery.specs.Cited.{BeginWith, Bulletin, Circuit, CircuitNeed, CircuitState, Directory, HeldCircuit, IsHeld, IsOrdered, KeepsPlace, Need, SoundCircuit, State, TakesOver, all_owed_last, are_below, begun, begun_circuit, brought, circuit_need, circuit_needs, drawn, draws, due, each_brought, goes_over, has, heading_of, idle, is_bulletin, is_circuit_sound, is_needed, is_recent, is_request, is_sound, list_all, list_any, need, on_circuit, owes_kept, restarted, sum_by, unused, waiting}
+use Rattle.std.proofs.Common.{◌≡◌, ℕ, zero, suc, ◌+◌, ◌<◌, ◌≤◌, Bool, true, false, not, cond, ◌||◌, ◌==◌, List, [], ◌∷◌, length, map, filter, get_or, slice_get, Some, zip, refl, sym, ap, ◌∙◌, arith}
+use Rattle.gts_recovery.specs.Cited.{BeginWith, Bulletin, Circuit, CircuitNeed, CircuitState, Directory, HeldCircuit, IsHeld, IsOrdered, KeepsPlace, Need, SoundCircuit, State, TakesOver, all_owed_last, are_below, begun, begun_circuit, brought, circuit_need, drawn, draws, due, each_brought, goes_over, has, idle, is_bulletin, is_circuit_sound, is_sound, list_all, list_any, need, on_circuit, owes_kept, restarted, sum_by, unused, waiting}
 use Rattle.std.proofs.lemmas.List.{length-map}
 use Rattle.std.proofs.lemmas.List.Sums.{sum_by-cons}
 use Rattle.std.proofs.lemmas.Bool.{lt-ltb, ltb-true, eq-eqb, ne_eqb, and_parts as and_true, and_from as both_true}
 use Rattle.gts_event.proofs.LawLemmas.{circuit-parts, sound-parts, held-begun, sound-held, waiting-left, filter_same}
 use Rattle.gts_core.proofs.LawLemmas.{all_pass}
+use Rattle.std.proofs.lemmas.Grind.{common_steps}
 
 -- ---- tests
 
 -- a filter leaves no more
 few_left : (f : ℕ → Bool) (xs : List ℕ) → length (filter f xs) ≤ length xs
 few_left f [] = omega arith
-few_left f (x ∷ xs) = go (f x) (few_left f xs)
-  where
-    go : (b : Bool) → length (filter f xs) ≤ length xs → length (cond b (x ∷ filter f xs) (filter f xs)) ≤ suc (length xs)
-    go true e = omega (arith, e)
-    go false e = omega (arith, e)
+few_left f (x ∷ xs) = grind (arith, common_steps, few_left f xs)
 
 at_least : {A : Type 0} (Stays : A → A → Type 0) (old new : List A) → BeginWith Stays old new → length old ≤ length new
 at_least Stays [] new h = omega arith
@@ -26,16 +23,7 @@ at_least Stays (row ∷ old) (next ∷ new) h = let rest = at_least Stays old ne
 -- ---- bulletins
 
 bulletin-over : (new old : Directory) (accepted : ℕ) (b : Bulletin) → TakesOver new old → is_bulletin old accepted b ≡ true → is_bulletin new accepted b ≡ true
-bulletin-over new old accepted b e h =
-    let few = at_least KeepsPlace old.circuits new.circuits e.circuits in
-    let (h1, other) = and_true _ (not (is_request old (heading_of b.body))) h in
-    let (h2, body) = and_true _ _ h1 in
-    let (h3, size) = and_true _ _ h2 in
-    let (low, position) = and_true (nat_lt b.from (length old.circuits)) (nat_lt b.position accepted) h3 in
-    let lower : b.from < length old.circuits = ltb-true _ _ low in
-    both_true _ (not (is_request new (heading_of b.body)))
-    (both_true _ _ (both_true _ _ (both_true (nat_lt b.from (length new.circuits)) (nat_lt b.position accepted) (lt-ltb _ _ (omega (arith, lower, few))) position) size) body)
-    (ap (λ (centre : List ℕ). not (is_request record old { centre = centre } (heading_of b.body))) e.centre ∙ other)
+bulletin-over new old accepted b e h = grind (arith, common_steps, at_least, and_true, ltb-true, both_true, lt-ltb)
 
 bulletins-over : (new old : Directory) (accepted : ℕ) (bs : List Bulletin) → TakesOver new old → list_all (is_bulletin old accepted) bs ≡ true → list_all (is_bulletin new accepted) bs ≡ true
 bulletins-over new old accepted [] e h = refl
@@ -56,18 +44,7 @@ held_unused n = record { few = omega arith; up = tt; once = λ p. omega arith; r
 
 held_brought : (n : Need) (row next : Circuit) (c : CircuitNeed) → SoundCircuit n row.kept c → HeldCircuit n.bulletins n.accepted (begun_circuit c)
     → HeldCircuit n.bulletins n.accepted (begun_circuit (brought row next c))
-held_brought n row next c p h = go (next.digits == row.digits)
-  where
-    go : (same : Bool) → HeldCircuit n.bulletins n.accepted (begun_circuit (record c { kept = cond same c.kept []; owed = [] }))
-    go true = record { few = h.few; up = h.up; once = h.once; routed_there = h.routed_there; taken_there = h.taken_there; owes_few = omega arith }
-    go false = record {
-      few = omega (arith, p.few, few_left (λ p. not (has [] p)) c.waiting);
-      up = h.up;
-      once = λ r. omega arith;
-      routed_there = h.routed_there;
-      taken_there = refl;
-      owes_few = omega arith;
-    }
+held_brought n row next c p h = grind (arith, common_steps, few_left)
 
 held_each : (n : Need) (old new : List Circuit) (cs : List CircuitNeed) → length cs ≡ length old
     → list_all (λ row. is_circuit_sound n row.0.kept row.1) (zip old cs) ≡ true
@@ -86,14 +63,7 @@ held_each n (row ∷ old) (next ∷ new) (q ∷ cs) e h all (suc c) lt =
     (λ d low. all (suc d) (omega (arith, low))) c (omega (arith, lt))
 
 below_brought : (count : ℕ) (row next : Circuit) (c : CircuitNeed) → are_below count (begun_circuit c) ≡ true → are_below count (begun_circuit (brought row next c)) ≡ true
-below_brought count row next c h = go (next.digits == row.digits)
-  where
-    parts : (list_all (λ p. nat_lt p count) c.waiting ≡ true) × (list_all (λ p. nat_lt p count) c.kept ≡ true)
-    parts = and_true (list_all (λ p. nat_lt p count) c.waiting) (list_all (λ p. nat_lt p count) c.kept) h
-
-    go : (same : Bool) → are_below count (begun_circuit (record c { kept = cond same c.kept []; owed = [] })) ≡ true
-    go true = h
-    go false = both_true (list_all (λ p. nat_lt p count) c.waiting) true parts.0 refl
+below_brought count row next c h = grind (arith, common_steps, and_true, both_true)
 
 below_each : (count : ℕ) (old new : List Circuit) (cs : List CircuitNeed) → list_all (are_below count) (map begun_circuit cs) ≡ true
     → list_all (are_below count) (map begun_circuit (each_brought old new cs)) ≡ true
@@ -142,24 +112,17 @@ brought_again : (old new : List Circuit) (qs : List CircuitState)
 brought_again old [] qs = refl
 brought_again [] (next ∷ new) qs = refl
 brought_again (row ∷ old) (next ∷ new) [] = refl
-brought_again (row ∷ old) (next ∷ new) (q ∷ qs) =
-    ap (λ (cs : List CircuitNeed). brought row next (circuit_need row.kept q) ∷ cs) (brought_again old new qs)
+brought_again (row ∷ old) (next ∷ new) (q ∷ qs) = grind (arith, common_steps, brought_again old new qs)
 
 held_again : (rows : List Circuit) (qs : List CircuitState) (p : ℕ)
     → list_any (λ c. has c.waiting p || has c.kept p) (map (λ row. circuit_need row.0.kept row.1) (zip rows (all_owed_last rows qs)))
     ≡ list_any (λ c. has c.waiting p || has c.kept p) (map (λ row. circuit_need row.0.kept row.1) (zip rows qs))
 held_again [] qs p = refl
 held_again (row ∷ rows) [] p = refl
-held_again (row ∷ rows) (q ∷ qs) p =
-    ap (λ (b : Bool). has (circuit_need row.kept q).waiting p || has (circuit_need row.kept q).kept p || b) (held_again rows qs p)
+held_again (row ∷ rows) (q ∷ qs) p = grind (arith, common_steps, held_again rows qs p)
 
 pub over-restarted : (new old : Directory) (s : State) → goes_over new old (need old (restarted old s)) ≡ goes_over new old (need old s)
-over-restarted new old s =
-    ap (λ (cs : List CircuitNeed). begun (record { accepted = s.count; bulletins = (need old (restarted old s)).bulletins; circuits = cs }))
-    (brought_again old.circuits new.circuits s.circuits)
-    ∙ ap (λ (bs : List Bulletin). begun (record { accepted = s.count; bulletins = bs; circuits = each_brought old.circuits new.circuits (circuit_needs old s) }))
-    (filter_same (λ (b : Bulletin). is_needed old s.count (circuit_needs old (restarted old s)) b.position) (λ b. is_needed old s.count (circuit_needs old s) b.position) s.accepted
-    (λ b. ap (λ (t : Bool). is_recent old s.count b.position || t) (held_again old.circuits s.circuits b.position)))
+over-restarted new old s = grind (arith, common_steps, brought_again, filter_same, held_again)
 
 -- ---- what is due
 
@@ -210,11 +173,7 @@ waits_same row next c apart = go (next.digits == row.digits)
     go false = all_pass c.waiting ∙ sym (all_stay c.waiting apart)
 
 draws_same : (row next : Circuit) (c : CircuitNeed) → length c.kept ≤ c.draws → draws (begun_circuit (brought row next c)) ≡ draws (begun_circuit c)
-draws_same row next c few = go (next.digits == row.digits)
-  where
-    go : (same : Bool) → draws (begun_circuit (record c { kept = cond same c.kept []; owed = [] })) ≡ draws (begun_circuit c)
-    go true = refl
-    go false = omega (arith, few)
+draws_same row next c few = grind (arith, common_steps)
 
 -- each circuit of the old directory
 each_at : (P : CircuitState → CircuitState → Type 0) (n : Need) (old new : List Circuit) (cs : List CircuitNeed) → length cs ≡ length old → BeginWith KeepsPlace old new
@@ -224,8 +183,7 @@ each_at : (P : CircuitState → CircuitState → Type 0) (n : Need) (old new : L
 each_at P n [] new cs e stays h each c lt = absurd (omega (arith, lt))
 each_at P n (row ∷ old) [] cs e stays h each c lt = absurd stays
 each_at P n (row ∷ old) (next ∷ new) [] e stays h each c lt = absurd (omega (arith, e))
-each_at P n (row ∷ old) (next ∷ new) (q ∷ cs) e stays h each zero lt =
-    each row next q (circuit-parts n row.kept q (and_true (is_circuit_sound n row.kept q) (list_all (λ r. is_circuit_sound n r.0.kept r.1) (zip old cs)) h).0)
+each_at P n (row ∷ old) (next ∷ new) (q ∷ cs) e stays h each zero lt = grind (arith, common_steps, circuit-parts, and_true)
 each_at P n (row ∷ old) (next ∷ new) (q ∷ cs) e stays h each (suc c) lt =
     each_at P n old new cs (omega (arith, e)) stays.1 (and_true (is_circuit_sound n row.kept q) (list_all (λ r. is_circuit_sound n r.0.kept r.1) (zip old cs)) h).1 each c (omega (arith, lt))
 

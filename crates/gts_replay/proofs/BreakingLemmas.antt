@@ -1,11 +1,12 @@
 -- A run broke off within a step, or when it was settled.
 use Rattle.std.proofs.Common.{◌≡◌, ℕ, ◌+◌, ◌<◌, ◌≤◌, List, [], ◌∷◌, ◌++◌, length, Err, sym, ap, subst, ◌∙◌, arith, append_assoc, length-append}
 use Rattle.std.proofs.lemmas.List.{append-nil}
-use Rattle.gts_replay.specs.Cited.{AfterSettling, BreaksAtRestart, BreaksIdle, BreaksOff, BreaksTogether, CaptureKind, Compact, Connections, Directory, DiskFault, Done, Doubt, Drain, Entry, Event, Feed, Full, Idle, IsCause, IsLasting, IsSettling, NoMemory, OpenFault, Reopen, Restart, Restarted, SayFault, Spent, Standing, State, Step, Stopped, StoppedBefore, StopsAtFault, SwitchFault, Take, all_done, all_unsaid, compactions_at, connections_after, count_at, entries_at, entries_of_step, no_bytes, origin_at, origin_behind, outcome_at, settled, state_at}
+use Rattle.gts_replay.specs.Cited.{AfterSettling, BreaksAtRestart, BreaksIdle, BreaksOff, BreaksTogether, CaptureKind, Compact, Connections, Directory, DiskFault, Done, Doubt, Entry, Event, Idle, IsCause, IsLasting, IsSettling, NoMemory, OpenFault, SayFault, Spent, Standing, State, Step, Stopped, StoppedBefore, StopsAtFault, SwitchFault, all_done, all_unsaid, compactions_at, connections_after, count_at, entries_at, entries_of_step, no_bytes, origin_at, outcome_at, settled, state_at}
 use Rattle.gts_replay.proofs.GoingLemmas.{within_all, settles_not}
 use Rattle.gts_replay.proofs.OriginLemmas.{AllBehind, wider, behind_append, origin_is, counts_within, counts_more}
 use Rattle.gts_replay.proofs.RunLemmas.{Gathered, origin_done, added_by}
 use Rattle.gts_replay.proofs.FollowLemmas.{AllFrom, Continues, Follows}
+use Rattle.std.proofs.lemmas.Grind.{common_steps}
 
 -- ---- where the switch stands since, behind a part of what was to be added
 
@@ -13,17 +14,10 @@ module _ {O W : Type 0} (meanings : Standing O W) (o p : O) (at : List Entry →
     (stays : (front tail : List Entry) → (h ++ es) ++ added ≡ front ++ tail → first ≤ length front → length front < length ((h ++ es) ++ added) → at front ≡ p) where
   -- behind a part of the last entries
   here : (front : List Entry) (entry : Entry) (behind : List Entry) → added ≡ front ++ entry ∷ behind → at (h ++ (es ++ front)) ≡ p
-  here front entry behind parts =
-      let same : (h ++ es) ++ front ≡ h ++ (es ++ front) = append_assoc h es front in
-      let all : (h ++ es) ++ added ≡ (h ++ (es ++ front)) ++ entry ∷ behind =
-      ap (λ (x : List Entry). (h ++ es) ++ x) parts ∙ sym (append_assoc (h ++ es) front (entry ∷ behind)) ∙ ap (λ (x : List Entry). x ++ entry ∷ behind) same in
-      stays (h ++ (es ++ front)) (entry ∷ behind) all (omega (arith, inside, ap length same, length-append (h ++ es) front))
-      (omega (arith, ap length all, length-append (h ++ (es ++ front)) (entry ∷ behind)))
+  here front entry behind parts = grind (arith, common_steps, stays, inside)
 
   parts_within : (front : List Entry) (entry : Entry) (behind : List Entry) → added ≡ front ++ entry ∷ behind → (es ++ added) ++ rest ≡ (es ++ front) ++ entry ∷ (behind ++ rest)
-  parts_within front entry behind parts =
-      ap (λ (x : List Entry). (es ++ x) ++ rest) parts ∙ ap (λ (x : List Entry). x ++ rest) (sym (append_assoc es front (entry ∷ behind)))
-      ∙ append_assoc (es ++ front) (entry ∷ behind) rest
+  parts_within front entry behind parts = grind (arith, common_steps)
 
   pub breaks_within : (fault : SwitchFault) (now : W) → BreaksOff meanings (λ _. p) first (h ++ es) added fault now → BreaksOff meanings at (length h) h ((es ++ added) ++ rest) fault now
   breaks_within fault now b = go fault b
@@ -62,23 +56,11 @@ module _ {O W : Type 0} (meanings : Standing O W) (o p : O) (at : List Entry →
       go : (f : SwitchFault) → BreaksOff meanings (λ _. p) first (h ++ es) added f now → BreaksOff meanings at (length h) h ((es ++ added) ++ rest) f now
       go DiskFault t = both (λ events. Doubt events ∷ []) t
       go SayFault t = both all_unsaid t
-      go (Full used need limit) t = idle (Full used need limit) t
-      go (Stopped by) t = idle (Stopped by) t
-      go Spent t = idle Spent t
-      go NoMemory t = idle NoMemory t
+      go f t = idle f t
 
   pub restart_within : (station : Type 0) (fault : OpenFault) (now : W) → BreaksAtRestart meanings station (λ _. p) (h ++ es) added fault now
       → BreaksAtRestart meanings station at h ((es ++ added) ++ rest) fault now
-  restart_within station fault now b =
-      let same : (h ++ es) ++ b.front ≡ h ++ (es ++ b.front) = append_assoc h es b.front in
-      let there : at (h ++ (es ++ b.front)) ≡ p = here b.front Restarted b.behind b.parts in
-      record {
-        front = es ++ b.front;
-        behind = b.behind ++ rest;
-        parts = parts_within b.front Restarted b.behind b.parts;
-        stands = subst (λ q. settled meanings q (h ++ (es ++ b.front)) now) (sym there) (subst (λ (x : List Entry). settled meanings p x now) same b.stands);
-        fault_is = b.fault_is;
-      }
+  restart_within station fault now b = grind (arith, common_steps, b, at, here, parts_within)
 
 behind_all : (m n : ℕ) (xs : List ℕ) → n < m → AllFrom m xs → AllBehind n xs
 behind_all m n [] lt each = tt
@@ -86,12 +68,8 @@ behind_all m n (x ∷ xs) lt each = (omega (arith, lt, each.0), behind_all m n x
 
 -- a compaction comes behind whatever is shorter than the entries behind which it is done
 behind_count : (s : State) (bs : Connections) (m n : ℕ) (step : Step) → n < m + length (entries_of_step s bs step) → AllBehind n (count_at m step)
-behind_count s bs m n (Feed c bytes) less = tt
-behind_count s bs m n (Take c) less = tt
-behind_count s bs m n (Reopen c) less = tt
-behind_count s bs m n (Drain c) less = tt
-behind_count s bs m n Restart less = tt
 behind_count s bs m n Compact less = (omega (arith, less), tt)
+behind_count s bs m n step less = tt
 
 module _ {O W : Type 0} (meanings : Standing O W) (begun now : W) (o : O) (h : List Entry) (steps : List Step) (g : Gathered meanings begun o h steps now) where
   abbrev es : List Entry
@@ -112,9 +90,7 @@ module _ {O W : Type 0} (meanings : Standing O W) (begun now : W) (o : O) (h : L
   -- behind a front of what there is, the compactions so far were done, and no other
   stays_at : (added front tail : List Entry) (all : List Step) (later : List ℕ) → compactions_at meanings begun o h all ≡ ks ++ later → AllBehind (length front) later → (h ++ es) ++ added ≡ front ++ tail
       → g.first ≤ length front → origin_at meanings o h all begun front ≡ p
-  stays_at added front tail all later counts none parts far =
-      ap (λ (xs : List ℕ). origin_behind meanings o xs front) counts
-      ∙ origin_is meanings o (h ++ es) added front tail ks later parts (counts_within meanings begun o h steps) (wider g.first (length front) ks far g.each) none
+  stays_at added front tail all later counts none parts far = grind (arith, common_steps, origin_is, counts_within, wider)
 
   -- ---- when all steps are done
 
@@ -146,20 +122,15 @@ module _ {O W : Type 0} (meanings : Standing O W) (begun now : W) (o : O) (h : L
           (behind_all (length h + length es) (length front) counts.0 (omega (arith, less, length-append (h ++ es) [], length-append h es)) counts.2) parts far
 
       lasting : (f : SwitchFault) → AfterSettling meanings p g.stands.front g.stands.events (Err f) later → IsLasting f
-      lasting DiskFault a = tt
-      lasting SayFault a = tt
-      lasting (Full used need limit) a = tt
-      lasting (Stopped by) a = tt
       lasting Spent a = absurd a
       lasting NoMemory a = absurd a
+      lasting f a = tt
 
       earlier : (f : SwitchFault) → AfterSettling meanings p g.stands.front g.stands.events (Err f) later → StoppedBefore h f
-      earlier DiskFault a = tt
-      earlier SayFault a = tt
-      earlier (Full used need limit) a = tt
       earlier (Stopped by) a = absurd a
       earlier Spent a = absurd a
       earlier NoMemory a = absurd a
+      earlier f a = tt
 
   -- ---- in a step
 

@@ -1,7 +1,8 @@
 -- The decoders of the circuits.
 use Rattle.std.proofs.Common.{◌≡◌, ℕ, zero, suc, ◌+◌, ◌<◌, List, [], ◌∷◌, ◌++◌, length, get_or, set, take, drop, map, replicate, Option, Some, refl, sym, ap, ◌∙◌, arith}
-use Rattle.std.proofs.lemmas.List.{map-set}
+use Rattle.std.proofs.lemmas.List.{length-map, map-set}
 use Rattle.gts_replay.specs.Cited.{Circuit, Connections, Decode, Decoding, Directory, fresh, held_in, no_bytes}
+use Rattle.std.proofs.lemmas.Grind.{common_steps}
 
 abbrev held : Decoding → Option (List ℕ)
 held d = d.held
@@ -10,9 +11,7 @@ held d = d.held
 pub one_more_fresh : (xs : List Decoding) (i : ℕ) → i < length xs → set (map (λ _. fresh) (take i xs) ++ drop i xs) i fresh ≡ map (λ _. fresh) (take (i + 1) xs) ++ drop (i + 1) xs
 one_more_fresh [] i lt = absurd (omega arith)
 one_more_fresh (x ∷ xs) zero lt = refl
-one_more_fresh (x ∷ xs) (suc i) lt =
-    let more : suc i + 1 ≡ suc (i + 1) = omega arith in
-    ap (λ (ds : List Decoding). fresh ∷ ds) (one_more_fresh xs i (omega arith)) ∙ sym (ap (λ (k : ℕ). map (λ _. fresh) (take k (x ∷ xs)) ++ drop k (x ∷ xs)) more)
+one_more_fresh (x ∷ xs) (suc i) lt = grind (arith, common_steps, one_more_fresh xs i (omega arith))
 
 fresh_each : (n : ℕ) (rows : List Circuit) → n ≡ length rows → map held (replicate n fresh) ≡ map held_in (map (λ _. []) rows)
 fresh_each zero [] e = refl
@@ -31,6 +30,10 @@ fresh_all (x ∷ ds) (row ∷ rows) e = ap (λ xs. Some [] ∷ xs) (fresh_all ds
 
 pub decode_reopened : (ds : List Decoding) (d : Directory) → length ds ≡ length d.circuits → Decode (map (λ _. fresh) ds) (no_bytes d)
 decode_reopened ds d e = fresh_all ds d.circuits e
+
+-- each connection has a decoder
+pub decode_each : (ds : List Decoding) (bs : Connections) → Decode ds bs → length ds ≡ length bs
+decode_each ds bs e = simp length-map at (ap length e)
 
 -- a decoder holds what its connection's bytes leave open
 pub decode_at : (ds : List Decoding) (bs : Connections) (c : ℕ) (x : Decoding) → c < length ds → Decode ds bs → (get_or ds c x).held ≡ held_in (get_or bs c [])

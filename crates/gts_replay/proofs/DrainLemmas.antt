@@ -1,9 +1,10 @@
 -- Takes until one gives nothing.
-use Rattle.std.proofs.Common.{◌≡◌, ℕ, zero, suc, ◌+◌, ◌^◌, ◌<◌, ◌≤◌, ◌-◌, ◌⊎◌, inl, inr, List, [], ◌∷◌, ◌++◌, length, get_or, drop, replicate, Result, Ok, Err, refl, sym, ap, subst, ◌∙◌, arith, append_assoc, length-append}
-use Rattle.gts_replay.specs.Cited.{AllByRecursion, BreaksOff, Choice, CircuitState, Directory, Done, Draw, Draws, Entry, IsAnswered, IsStart, Nothing, Nothing_waits, Outcome, Repeats, Resend, RoutedOnce, Standing, Stands, StandsFor, State, SwitchFault, Taken, after, after_all, after_take, all_done, choice, draws, idle, left_to_give, most_owed, next, on_circuit, outcome, state_at, takes_of_drain, with_drawn, with_repeated}
-use Rattle.std.proofs.lemmas.List.{append-nil, get_or-set_same}
+use Rattle.std.proofs.Common.{◌≡◌, ℕ, zero, suc, ◌+◌, ◌^◌, ◌<◌, ◌≤◌, ◌-◌, ◌⊎◌, inl, inr, List, [], ◌∷◌, ◌++◌, length, get_or, replicate, Result, Ok, Err, refl, sym, ap, subst, ◌∙◌, arith, append_assoc, length-append}
+use Rattle.gts_replay.specs.Cited.{AllByRecursion, BreaksOff, Choice, CircuitState, Directory, Done, Draw, Draws, Entry, IsAnswered, IsStart, Nothing, Nothing_waits, Outcome, Repeats, Resend, RoutedOnce, Standing, Stands, StandsFor, State, SwitchFault, Taken, after, after_all, after_take, all_done, choice, draws, idle, left_to_give, most_owed, next, on_circuit, outcome, state_at, takes_of_drain, with_drawn}
+use Rattle.std.proofs.lemmas.List.{get_or-set_same}
 use Rattle.gts_event.proofs.LawLemmas.{after_all-append, ordered-all, routed_once-all, owed_few-all, one_less, nothing_left, repeats_first, draws_index}
 use Rattle.gts_replay.proofs.GoingLemmas.{stands_same, one_done, answer_is, call_breaks, then_breaks, breaks_before}
+use Rattle.std.proofs.lemmas.Grind.{common_steps}
 
 -- so many takes on a circuit
 abbrev pub takes : ℕ → ℕ → List Entry
@@ -61,10 +62,7 @@ one_taken d s c within few some = go (choice d s c) refl
     over r = (1 + length r.owed + draws q ≡ length q.owed + draws r) × ((draws r ≡ draws q) ⊎ (draws r ≤ 2 ^ 64))
 
     go : (ch : Choice) → choice d s c ≡ ch → Goal (after_take s c (choice d s c))
-    go (Repeats i) e =
-        let at : on_circuit (after_take s c (choice d s c)) c ≡ with_repeated q = ap (λ (ch : Choice). on_circuit (after_take s c ch) c) e ∙ get_or-set_same s.circuits c (with_repeated q) idle within in
-        let one : length (drop 1 q.owed) + 1 ≡ length q.owed = repeats_first q.owed (next d s q) (draws q) i e in
-        subst over (sym at) (omega (arith, one), inl refl)
+    go (Repeats i) e = grind (arith, common_steps, get_or-set_same, repeats_first)
     go (Draws i p) e =
         let at : on_circuit (after_take s c (choice d s c)) c ≡ with_drawn p q = ap (λ (ch : Choice). on_circuit (after_take s c ch) c) e ∙ get_or-set_same s.circuits c (with_drawn p q) idle within in
         let index : draws q ≡ i = draws_index q.owed (next d s q) (draws q) i p e in
@@ -89,19 +87,6 @@ module _ {O W : Type 0} (meanings : Standing O W) (begun : W) (o : O) (first : �
     pub left : left_to_give (circuit_at (h ++ takes c i)) + i ≡ left_to_give (circuit_at h)
     pub counted : i + length (circuit_at (h ++ takes c i)).owed + draws (circuit_at h) ≡ length (circuit_at h).owed + draws (circuit_at (h ++ takes c i))
     pub few : (draws (circuit_at (h ++ takes c i)) ≡ draws (circuit_at h)) ⊎ (draws (circuit_at (h ++ takes c i)) ≤ 2 ^ 64)
-
-  pub drained_none : StandsFor meanings o first h begun → Drained 0 begun
-  drained_none start =
-      let same : h ++ [] ≡ h = append-nil h in
-      let left : left_to_give (circuit_at (h ++ [])) ≡ left_to_give (circuit_at h) = ap (λ (x : List Entry). left_to_give (circuit_at x)) same in
-      let owed : length (circuit_at (h ++ [])).owed ≡ length (circuit_at h).owed = ap (λ (x : List Entry). length (circuit_at x).owed) same in
-      let drawn : draws (circuit_at (h ++ [])) ≡ draws (circuit_at h) = ap (λ (x : List Entry). draws (circuit_at x)) same in
-      record {
-        stands = stands_same meanings o first h (h ++ []) begun (sym same) start.stands;
-        left = omega (arith, left);
-        counted = omega (arith, owed, drawn);
-        few = inl drawn;
-      }
 
   module _ (now later : W) (i : ℕ) (result : Result Outcome SwitchFault) (same : meanings.directory now ≡ meanings.directory begun) (drained : Drained i now)
       (called : IsAnswered meanings (Taken c) result now later) where

@@ -1,6 +1,6 @@
 -- How a run ends.
 use Rattle.std.proofs.Common.{◌≡◌, ℕ, ◌+◌, ◌*◌, ◌-◌, ◌^◌, ◌≤◌, ◌⊎◌, inl, inr, List, [], ◌∷◌, ◌++◌, length, Result, Ok, Err, refl, sym, ap, subst, ◌∙◌, arith, length-append}
-use Rattle.gts_replay.specs.Cited.{Bad, BreaksAtCompaction, BreaksOff, CaptureKind, Compact, CompactHead, Connections, Decoding, Directory, DoesStep, Done, DrainHead, EndHead, Ends, EndsEarlyOf, Entry, Feed, FeedHead, HasDone, Head, Held, IsBadAt, IsCut, IsDone, IsHeadOf, IsLasting, IsReadTo, IsSameCapture, IsSettling, IsStepOf, IsWholeOf, Journaled, LONGEST_CAPTURE, LacksMemory, LosesSource, OpenFault, ReopenHead, ReplayEnd, Restart, RestartHead, SettlesBehind, SettlesTo, SourceFault, Standing, StandsFor, Step, StepFault, StoppedBefore, StopsAtCompaction, StopsAtFault, StopsAtRestart, StopsInHead, SwitchFault, TakeHead, TakesNoMore, bytes_of_step, connections_after, dec, end_of, entries_at, flat_map, head_of, head_text, no_bytes, origin_at, outcome_at, readable, readable_from, settled_end, state_at, step_text}
+use Rattle.gts_replay.specs.Cited.{Bad, BreaksAtCompaction, BreaksOff, CaptureKind, Compact, Connections, Decoding, Directory, DoesStep, Done, EndHead, Ends, EndsEarlyOf, Entry, Feed, FeedHead, HasDone, Head, Held, IsBadAt, IsCut, IsDone, IsHeadOf, IsLasting, IsReadTo, IsSameCapture, IsSettling, IsStepOf, IsWholeOf, Journaled, LONGEST_CAPTURE, LacksMemory, LosesSource, OpenFault, ReplayEnd, Restart, SettlesBehind, SettlesTo, SourceFault, Standing, StandsFor, Step, StepFault, StoppedBefore, StopsAtCompaction, StopsAtFault, StopsAtRestart, StopsInHead, SwitchFault, TakesNoMore, bytes_of_step, connections_after, dec, end_of, entries_at, flat_map, head_of, head_text, no_bytes, origin_at, outcome_at, readable, readable_from, settled_end, state_at, step_text}
 use Rattle.gts_event.specs.declared.fault.SwitchFault.TheVariants as switch
 use Rattle.gts_record.specs.declared.fault.OpenFault.TheVariants as opening
 use Rattle.gts_connection.proofs.LawLemmas.{reads, whole_is_read, early_is_none}
@@ -12,99 +12,29 @@ use Rattle.gts_replay.proofs.SureLemmas.{AllSure, sure_from, sure_front, stopped
 use Rattle.gts_replay.proofs.RunLemmas.{Runs, ReadsHead, Gathered, head_here, stands_on, gathered_more, origin_done}
 use Rattle.gts_replay.proofs.FollowLemmas.{Continues, continues_alone, continues_read, Follows, follows, TakesPart, part_taken, part_stopped, cut_in, lost_in}
 use Rattle.gts_replay.proofs.BreakingLemmas.{settling_stops, step_breaks, step_restart}
+use Rattle.std.proofs.lemmas.Grind.{common_steps}
 
--- ---- one end each
+-- ---- an end, by its answer
 
-done_ends : {O W : Type 0} (meanings : Standing O W) (station : Type 0) (kind : CaptureKind) (o : O) (h : List Entry) (observed : Type 0) (old new : W) (bytes left : List ℕ)
-    → IsDone meanings kind o h observed old new bytes → Ends meanings station kind o h observed end.Done old new bytes left
-done_ends meanings station kind o h observed old new bytes left is = record {
-  done = λ e. is;
-  capture = λ at e. absurd (cc);
-  source_fault = λ e. absurd (cc);
-  reopen = λ fault e. absurd (cc);
-  compaction = λ fault e. absurd (cc);
-  fault = λ fault e. absurd (cc);
-  no_memory = λ e. absurd (cc);
-}
+module _ {O W : Type 0} (meanings : Standing O W) (station : Type 0) (kind : CaptureKind) (o : O) (h : List Entry) (observed : Type 0) (old new : W) (bytes left : List ℕ) where
+  abbrev EndsAs : ReplayEnd → Type 0
+  EndsAs end.Done = IsDone meanings kind o h observed old new bytes
+  EndsAs (end.Capture at) = IsCut meanings kind o h observed at old new bytes
+  EndsAs end.SourceFault = LosesSource meanings kind o h observed old new bytes left
+  EndsAs (end.Reopen fault) = StopsAtRestart meanings station kind o h observed fault old new bytes
+  EndsAs (end.Compaction fault) = StopsAtCompaction meanings kind o h observed fault old new bytes
+  EndsAs (end.Fault fault) = StopsAtFault meanings kind o h observed fault old new bytes
+  EndsAs end.NoMemory = LacksMemory meanings station kind o h observed old new bytes
 
-cut_ends : {O W : Type 0} (meanings : Standing O W) (station : Type 0) (kind : CaptureKind) (o : O) (h : List Entry) (observed : Type 0) (at : ℕ) (old new : W) (bytes left : List ℕ)
-    → IsCut meanings kind o h observed at old new bytes → Ends meanings station kind o h observed (end.Capture at) old new bytes left
-cut_ends meanings station kind o h observed at old new bytes left is = record {
-  done = λ e. absurd (cc);
-  capture = λ place e. let same : at ≡ place = cc in subst (λ (k : ℕ). IsCut meanings kind o h observed k old new bytes) same is;
-  source_fault = λ e. absurd (cc);
-  reopen = λ fault e. absurd (cc);
-  compaction = λ fault e. absurd (cc);
-  fault = λ fault e. absurd (cc);
-  no_memory = λ e. absurd (cc);
-}
-
-source_ends : {O W : Type 0} (meanings : Standing O W) (station : Type 0) (kind : CaptureKind) (o : O) (h : List Entry) (observed : Type 0) (old new : W) (bytes left : List ℕ)
-    → LosesSource meanings kind o h observed old new bytes left → Ends meanings station kind o h observed end.SourceFault old new bytes left
-source_ends meanings station kind o h observed old new bytes left is = record {
-  done = λ e. absurd (cc);
-  capture = λ at e. absurd (cc);
-  source_fault = λ e. is;
-  reopen = λ fault e. absurd (cc);
-  compaction = λ fault e. absurd (cc);
-  fault = λ fault e. absurd (cc);
-  no_memory = λ e. absurd (cc);
-}
-
-reopen_ends : {O W : Type 0} (meanings : Standing O W) (station : Type 0) (kind : CaptureKind) (o : O) (h : List Entry) (observed : Type 0) (f : OpenFault) (old new : W) (bytes left : List ℕ)
-    → StopsAtRestart meanings station kind o h observed f old new bytes → Ends meanings station kind o h observed (end.Reopen f) old new bytes left
-reopen_ends meanings station kind o h observed f old new bytes left is = record {
-  done = λ e. absurd (cc);
-  capture = λ at e. absurd (cc);
-  source_fault = λ e. absurd (cc);
-  reopen = λ fault e. let same : f ≡ fault = cc in subst (λ (x : OpenFault). StopsAtRestart meanings station kind o h observed x old new bytes) same is;
-  compaction = λ fault e. absurd (cc);
-  fault = λ fault e. absurd (cc);
-  no_memory = λ e. absurd (cc);
-}
-
-fault_ends : {O W : Type 0} (meanings : Standing O W) (station : Type 0) (kind : CaptureKind) (o : O) (h : List Entry) (observed : Type 0) (f : SwitchFault) (old new : W) (bytes left : List ℕ)
-    → StopsAtFault meanings kind o h observed f old new bytes → Ends meanings station kind o h observed (end.Fault f) old new bytes left
-fault_ends meanings station kind o h observed f old new bytes left is = record {
-  done = λ e. absurd (cc);
-  capture = λ at e. absurd (cc);
-  source_fault = λ e. absurd (cc);
-  reopen = λ fault e. absurd (cc);
-  compaction = λ fault e. absurd (cc);
-  fault = λ fault e. let same : f ≡ fault = cc in subst (λ (x : SwitchFault). StopsAtFault meanings kind o h observed x old new bytes) same is;
-  no_memory = λ e. absurd (cc);
-}
-
-compaction_ends : {O W : Type 0} (meanings : Standing O W) (station : Type 0) (kind : CaptureKind) (o : O) (h : List Entry) (observed : Type 0) (f : SwitchFault) (old new : W) (bytes left : List ℕ)
-    → StopsAtCompaction meanings kind o h observed f old new bytes → Ends meanings station kind o h observed (end.Compaction f) old new bytes left
-compaction_ends meanings station kind o h observed f old new bytes left is = record {
-  done = λ e. absurd (cc);
-  capture = λ at e. absurd (cc);
-  source_fault = λ e. absurd (cc);
-  reopen = λ fault e. absurd (cc);
-  compaction = λ fault e. let same : f ≡ fault = cc in subst (λ (x : SwitchFault). StopsAtCompaction meanings kind o h observed x old new bytes) same is;
-  fault = λ fault e. absurd (cc);
-  no_memory = λ e. absurd (cc);
-}
-
-memory_ends : {O W : Type 0} (meanings : Standing O W) (station : Type 0) (kind : CaptureKind) (o : O) (h : List Entry) (observed : Type 0) (old new : W) (bytes left : List ℕ)
-    → LacksMemory meanings station kind o h observed old new bytes → Ends meanings station kind o h observed end.NoMemory old new bytes left
-memory_ends meanings station kind o h observed old new bytes left is = record {
-  done = λ e. absurd (cc);
-  capture = λ at e. absurd (cc);
-  source_fault = λ e. absurd (cc);
-  reopen = λ fault e. absurd (cc);
-  compaction = λ fault e. absurd (cc);
-  fault = λ fault e. absurd (cc);
-  no_memory = λ e. is;
-}
+  ends_as : (result : ReplayEnd) → EndsAs result → Ends meanings station kind o h observed result old new bytes left
+  ends_as result so = grind (arith, common_steps)
 
 -- before the first step
 pub ends_unmade : {O W : Type 0} (meanings : Standing O W) (station : Type 0) (kind : CaptureKind) (o : O) (h : List Entry) (observed : Type 0) (now : W) (bytes left : List ℕ)
     → StandsFor meanings o (length h) h now → Ends meanings station kind o h observed end.NoMemory now now bytes left
 ends_unmade meanings station kind o h observed now bytes left start =
     let r = reads kind (meanings.directory now) (readable bytes) in
-    memory_ends meanings station kind o h observed now now bytes left record {
+    ends_as meanings station kind o h observed now now bytes left end.NoMemory record {
       steps = r.0;
       read = λ t. (r.1, r.2);
       stands = inl record { same = refl; stands = settled_all meanings o h now start.stands };
@@ -115,12 +45,7 @@ ends_unmade meanings station kind o h observed now bytes left start =
 two_bytes : (h : Head) → 2 ≤ length (head_text h)
 unfolding dec
 two_bytes (FeedHead c n) = omega arith
-two_bytes (TakeHead c) = omega arith
-two_bytes (ReopenHead c) = omega arith
-two_bytes (DrainHead c) = omega arith
-two_bytes RestartHead = omega arith
-two_bytes CompactHead = omega arith
-two_bytes EndHead = omega arith
+two_bytes h = omega arith
 
 pub two_each : (steps : List Step) → 2 * length steps ≤ length (flat_map step_text steps)
 two_each [] = omega arith
@@ -142,14 +67,12 @@ module _ {O W : Type 0} (meanings : Standing O W) (kind : CaptureKind) (station 
     where
       go : (answer : Result (Unit {0}) SwitchFault) → IsSettling meanings answer now later → Ends meanings station kind o h observed (settled_end e answer) begun later bytes left
       go (Ok u) settling = ends (settles_all meanings (origin_done meanings begun o h steps) g.first (h ++ entries_at meanings begun o h steps) now later u g.stands settling)
-      go (Err fault) settling = fault_ends meanings station kind o h observed fault begun later bytes left (settling_stops meanings begun now o h steps g kind observed bytes fault later c settling)
+      go (Err fault) settling = ends_as meanings station kind o h observed begun later bytes left (end.Fault fault) (settling_stops meanings begun now o h steps g kind observed bytes fault later c settling)
 
   -- an end with nothing to settle
   rests : (o : O) (h : List Entry) (e result : ReplayEnd) (now later : W) (left : List ℕ) → Ends meanings station kind o h observed e begun now bytes left → (result ≡ e) × (later ≡ now)
       → Ends meanings station kind o h observed result begun later bytes left
-  rests o h e result now later left ends same =
-      subst (λ (r : ReplayEnd). Ends meanings station kind o h observed r begun later bytes left) (sym same.0)
-      (subst (λ (w : W). Ends meanings station kind o h observed e begun w bytes left) (sym same.1) ends)
+  rests o h e result now later left ends same = grind (arith, common_steps)
 
   -- ---- at a head
 
@@ -161,7 +84,7 @@ module _ {O W : Type 0} (meanings : Standing O W) (kind : CaptureKind) (station 
         let R : List ℕ → Type 0 = λ xs. IsReadTo kind d bytes steps old xs in
         let whole : (observed → IsWholeOf kind d bytes steps) = λ t. at_end kind d bytes (new.ahead ++ after) steps old (subst R (told t) (runs.read t)) within in
         settled_ends o h steps now (runs.stands o h start) (continues_alone kind d observed bytes steps (λ t. (length (flat_map step_text steps ++ head_text EndHead), whole_is_read kind d bytes steps (whole t)))) end.Done result later left
-        (λ stands. done_ends meanings station kind o h observed begun later bytes left record { steps = steps; are = runs.are; whole = whole; stands = stands }) settles
+        (λ stands. ends_as meanings station kind o h observed begun later bytes left end.Done record { steps = steps; are = runs.are; whole = whole; stands = stands }) settles
 
     pub ends_bad : (left : List ℕ) (at : ℕ) → length d.circuits ≤ 100 → (observed → IsBadAt old (readable_from old.at (old.ahead ++ before)) at)
         → (result : ReplayEnd) (later : W) → SettlesBehind meanings (end.Capture at) result now later
@@ -169,7 +92,7 @@ module _ {O W : Type 0} (meanings : Standing O W) (kind : CaptureKind) (station 
     ends_bad left at few bad result later settles o h start =
         let early : (observed → EndsEarlyOf kind d bytes steps at) = λ t. at_bad kind d bytes (old.ahead ++ before) steps old at (runs.read t) (bad t) in
         settled_ends o h steps now (runs.stands o h start) (continues_alone kind d observed bytes steps (λ t. (at, (early t).0))) (end.Capture at) result later left
-        (λ stands. cut_ends meanings station kind o h observed at begun later bytes left
+        (λ stands. ends_as meanings station kind o h observed begun later bytes left (end.Capture at)
         record { steps = steps; early = early; none = λ t others w. early_is_none kind d bytes steps others at few (early t) w; stands = stands }) settles
 
     pub ends_source : (new : Held) (after : List ℕ) → IsSameCapture old new → (observed → StopsInHead old new before after)
@@ -177,7 +100,7 @@ module _ {O W : Type 0} (meanings : Standing O W) (kind : CaptureKind) (station 
         → (o : O) (h : List Entry) → StandsFor meanings o (length h) h begun → Ends meanings station kind o h observed result begun later bytes after
     ends_source new after same stops result later settles o h start =
         settled_ends o h steps now (runs.stands o h start) (continues_read kind d observed bytes steps old (old.ahead ++ before) runs.read) end.SourceFault result later after
-        (λ stands. source_ends meanings station kind o h observed begun later bytes after record {
+        (λ stands. ends_as meanings station kind o h observed begun later bytes after end.SourceFault record {
           steps = steps;
           taken = λ t. taken_head kind d bytes before after steps old new (runs.read t) same (stops t);
           stands = stands;
@@ -191,7 +114,7 @@ module _ {O W : Type 0} (meanings : Standing O W) (kind : CaptureKind) (station 
         let r = runs.read t in
         omega (arith, many, two_each steps, r.place, r.within) in
         settled_ends o h steps now (runs.stands o h start) (continues_alone kind d observed bytes steps (λ t. absurd (never t))) (end.Capture at) result later left
-        (λ stands. cut_ends meanings station kind o h observed at begun later bytes left record { steps = steps; early = λ t. absurd (never t); none = λ t. absurd (never t); stands = stands }) settles
+        (λ stands. ends_as meanings station kind o h observed begun later bytes left (end.Capture at) record { steps = steps; early = λ t. absurd (never t); none = λ t. absurd (never t); stands = stands }) settles
 
 -- ---- in a step
 
@@ -199,23 +122,14 @@ module _ {O W : Type 0} (meanings : Standing O W) (kind : CaptureKind) (station 
 journal_head : (head : Head) (step : Step) → IsStepOf head step → (step ≡ Restart) ⊎ (step ≡ Compact) → head ≡ head_of step
 journal_head (FeedHead c n) step of (inl e) = absurd (let f : Feed c of.0 ≡ Restart = sym of.1 ∙ e in cc)
 journal_head (FeedHead c n) step of (inr e) = absurd (let f : Feed c of.0 ≡ Compact = sym of.1 ∙ e in cc)
-journal_head (TakeHead c) step of e = sym of
-journal_head (ReopenHead c) step of e = sym of
-journal_head (DrainHead c) step of e = sym of
-journal_head RestartHead step of e = sym of
-journal_head CompactHead step of e = sym of
-journal_head EndHead step of e = sym of
+journal_head head step of e = sym of
 
 -- of the entries of steps those before a fault are done
 earlier_by : {O W : Type 0} (meanings : Standing O W) (at : List Entry → O) (first : ℕ) (h more : List Entry) (fault : SwitchFault) (now : W) → AllSure more → BreaksOff meanings at first h more fault now → StoppedBefore h fault
-earlier_by meanings at first h more switch.DiskFault now sure b = tt
-earlier_by meanings at first h more switch.SayFault now sure b = tt
-earlier_by meanings at first h more (switch.Full used need limit) now sure b = tt
 earlier_by meanings at first h more (switch.Stopped by) now sure b =
     stopped_before (meanings.is_full (at (h ++ b.front)) (h ++ b.front) b.event) h b.front (outcome_at meanings now (at (h ++ b.front)) (h ++ b.front) b.event) (switch.Stopped by)
     (sure_front b.front (Done b.event ∷ b.behind) (subst AllSure b.parts sure)) b.cause
-earlier_by meanings at first h more switch.Spent now sure b = tt
-earlier_by meanings at first h more switch.NoMemory now sure b = tt
+earlier_by meanings at first h more fault now sure b = tt
 
 pub ends_step : {O W : Type 0} (meanings : Standing O W) (kind : CaptureKind) (station observed : Type 0) (bytes : List ℕ) (begun : W) (steps : List Step) (old mid new : Held) (before left after : List ℕ)
     (ds ds_now : List Decoding) (now later : W) (head : Head) (fault : StepFault) → length (meanings.directory begun).circuits ≤ 100
@@ -249,8 +163,8 @@ ends_step {O} {W} meanings kind station observed bytes begun steps old mid new b
     Does : StepFault → Type 0
     Does f = DoesStep meanings station observed head (Err f) mid new left after ds ds_now now later
 
-    whole : (e : ReplayEnd) → Ends meanings station kind o h observed e begun later bytes after → (result ≡ e) × (last ≡ later) → Ends meanings station kind o h observed result begun last bytes after
-    whole e ends is = rests meanings kind station observed bytes begun o h e result later last after ends is
+    whole : (e : ReplayEnd) → EndsAs meanings station kind o h observed begun later bytes after e → (result ≡ e) × (last ≡ later) → Ends meanings station kind o h observed result begun last bytes after
+    whole e so is = rests meanings kind station observed bytes begun o h e result later last after (ends_as meanings station kind o h observed begun later bytes after e so) is
 
     follow_of : (f : StepFault) (w : Does f) → TakesPart observed (bytes_of_step w.step) mid left → Follows kind d observed bytes steps w.step
     follow_of f w taken = follows kind d observed bytes steps w.step old mid before left head runs.read reads valid w.of_head taken
@@ -316,25 +230,13 @@ ends_step {O} {W} meanings kind station observed bytes begun steps old mid new b
           earlier = uncompacted_before (meanings.is_full_compacted p (h ++ es)) h es f sure u.cause;
         }
 
-    fault_is : (f : SwitchFault) → IsLasting f → Does (step.Switch f) → (result ≡ end.Fault f) × (last ≡ later) → Ends meanings station kind o h observed result begun last bytes after
-    fault_is f lasting w is = whole (end.Fault f) (fault_ends meanings station kind o h observed f begun later bytes after (stops f lasting w)) is
-
-    reopen_is : (f : OpenFault) → (f ≡ opening.NoMemory → ⊥) → Does (step.Reopen f) → (result ≡ end.Reopen f) × (last ≡ later) → Ends meanings station kind o h observed result begun last bytes after
-    reopen_is f memory w is = whole (end.Reopen f) (reopen_ends meanings station kind o h observed f begun later bytes after (unopened f memory w)) is
-
-    compaction_is : (f : SwitchFault) → IsLasting f → Does (step.Compaction f) → (result ≡ end.Compaction f) × (last ≡ later) → Ends meanings station kind o h observed result begun last bytes after
-    compaction_is f lasting w is = whole (end.Compaction f) (compaction_ends meanings station kind o h observed f begun later bytes after (uncompacted f lasting w)) is
-
-    memory_is : LacksMemory meanings station kind o h observed begun later bytes → (result ≡ end.NoMemory) × (last ≡ later) → Ends meanings station kind o h observed result begun last bytes after
-    memory_is lacks is = whole end.NoMemory (memory_ends meanings station kind o h observed begun later bytes after lacks) is
-
     go : (f : StepFault) → Does f → SettlesBehind meanings (end_of f) result later last → Ends meanings station kind o h observed result begun last bytes after
     go (step.Capture (Bad at)) w settles =
         let early : (observed → EndsEarlyOf kind d bytes (steps ++ w.step ∷ []) at) = λ t. cut_in kind d bytes steps old mid before left at observed head w.step t (runs.read t) reads valid w.of_head w.taken in
         settled_ends meanings kind station observed bytes begun o h (steps ++ w.step ∷ []) later
         (gathered_more meanings begun now later o h steps w.step same (runs.begins o h) g (w.went bs p g.first (h ++ es) runs.decode on))
         (continues_alone kind d observed bytes (steps ++ w.step ∷ []) (λ t. (at, (early t).0))) (end.Capture at) result last after
-        (λ stands. cut_ends meanings station kind o h observed at begun last bytes after record {
+        (λ stands. ends_as meanings station kind o h observed begun last bytes after (end.Capture at) record {
           steps = steps ++ w.step ∷ [];
           early = early;
           none = λ t others k. early_is_none kind d bytes (steps ++ w.step ∷ []) others at few (early t) k;
@@ -344,37 +246,28 @@ ends_step {O} {W} meanings kind station observed bytes begun steps old mid new b
         settled_ends meanings kind station observed bytes begun o h (steps ++ w.step ∷ []) later
         (gathered_more meanings begun now later o h steps w.step same (runs.begins o h) g (w.went bs p g.first (h ++ es) runs.decode on))
         (follow_of (step.Capture SourceFault) w (part_stopped observed (bytes_of_step w.step) mid left after w.taken)).goes end.SourceFault result last after
-        (λ stands. source_ends meanings station kind o h observed begun last bytes after record {
+        (λ stands. ends_as meanings station kind o h observed begun last bytes after end.SourceFault record {
           steps = steps ++ w.step ∷ [];
           taken = λ t. lost_in kind d bytes steps old mid before left after observed head w.step t (runs.read t) reads valid w.of_head w.taken;
           stands = stands;
         }) settles
-    go (step.Reopen opening.NoJournal) w settles = reopen_is opening.NoJournal (λ e. cc) w settles
-    go (step.Reopen opening.OldVersion) w settles = reopen_is opening.OldVersion (λ e. cc) w settles
-    go (step.Reopen (opening.NotThis want found)) w settles = reopen_is (opening.NotThis want found) (λ e. cc) w settles
-    go (step.Reopen (opening.Damaged file at)) w settles = reopen_is (opening.Damaged file at) (λ e. cc) w settles
-    go (step.Reopen opening.DiskFault) w settles = reopen_is opening.DiskFault (λ e. cc) w settles
     go (step.Reopen opening.NoMemory) w settles =
         let follow = no_more (step.Reopen opening.NoMemory) w w.taken in
         let r = w.went bs p g.first (h ++ es) runs.decode on in
-        memory_is record {
+        whole end.NoMemory record {
           steps = follow.goes.all;
           read = follow.goes.read;
           stands = inr (inl (step_restart meanings begun now o h steps g kind observed bytes w.step same (runs.begins o h) follow station opening.NoMemory later r.1));
         } settles
-    go (step.Switch switch.DiskFault) w settles = fault_is switch.DiskFault tt w settles
-    go (step.Switch switch.SayFault) w settles = fault_is switch.SayFault tt w settles
-    go (step.Switch (switch.Full used need limit)) w settles = fault_is (switch.Full used need limit) tt w settles
-    go (step.Switch (switch.Stopped by)) w settles = fault_is (switch.Stopped by) tt w settles
+    go (step.Reopen f) w settles = whole (end.Reopen f) (unopened f (λ e. cc) w) settles
     go (step.Switch switch.Spent) w settles = absurd (breaks switch.Spent w (no_more (step.Switch switch.Spent) w w.taken)).cause
     go (step.Switch switch.NoMemory) w settles =
         let follow = no_more (step.Switch switch.NoMemory) w w.taken in
-        memory_is record { steps = follow.goes.all; read = follow.goes.read; stands = inr (inr (inr (breaks switch.NoMemory w follow))) } settles
-    go (step.Compaction switch.DiskFault) w settles = compaction_is switch.DiskFault tt w settles
+        whole end.NoMemory record { steps = follow.goes.all; read = follow.goes.read; stands = inr (inr (inr (breaks switch.NoMemory w follow))) } settles
+    go (step.Switch f) w settles = whole (end.Fault f) (stops f tt w) settles
     go (step.Compaction switch.SayFault) w settles = absurd (w.went bs p g.first (h ++ es) runs.decode on).cause
-    go (step.Compaction (switch.Full used need limit)) w settles = compaction_is (switch.Full used need limit) tt w settles
-    go (step.Compaction (switch.Stopped by)) w settles = compaction_is (switch.Stopped by) tt w settles
     go (step.Compaction switch.Spent) w settles = absurd (w.went bs p g.first (h ++ es) runs.decode on).cause
     go (step.Compaction switch.NoMemory) w settles =
         let follow = no_more (step.Compaction switch.NoMemory) w w.taken in
-        memory_is record { steps = follow.goes.all; read = follow.goes.read; stands = inr (inr (inl (uncompacts switch.NoMemory w follow))) } settles
+        whole end.NoMemory record { steps = follow.goes.all; read = follow.goes.read; stands = inr (inr (inl (uncompacts switch.NoMemory w follow))) } settles
+    go (step.Compaction f) w settles = whole (end.Compaction f) (uncompacted f tt w) settles

@@ -1,33 +1,21 @@
 -- The bytes of a connection, piece by piece, and the entries that they add.
-use Rattle.std.proofs.Common.{◌≡◌, ℕ, ◌-◌, List, [], ◌∷◌, ◌++◌, length, take, drop, Err, sym, ap, subst, ◌∙◌, arith, length-drop}
+use Rattle.std.proofs.Common.{◌≡◌, ℕ, ◌-◌, List, [], ◌++◌, length, take, drop, Err, sym, ap, subst, ◌∙◌, arith, length-drop}
 use Rattle.std.proofs.lemmas.List.{append-nil, append_assoc, take_all}
-use Rattle.gts_replay.specs.Cited.{BreaksOff, Decoding, Entry, Event, IsFed, Standing, Stands, SwitchFault, all_done, events_added, held_in}
+use Rattle.gts_replay.specs.Cited.{BreaksOff, Decoding, Entry, IsFed, Standing, Stands, SwitchFault, all_done, events_added, held_in}
 use Rattle.gts_connection.proofs.LawLemmas.{added-twice}
 use Rattle.gts_replay.proofs.GoingLemmas.{all_done-append, stands_same, then_goes, breaks_before}
+use Rattle.std.proofs.lemmas.Grind.{common_steps}
 
 -- what two pieces add
 pub done_twice : (c : ℕ) (before x y : List ℕ) → all_done (events_added c before (x ++ y)) ≡ all_done (events_added c before x) ++ all_done (events_added c (before ++ x) y)
 done_twice c before x y = ap all_done (added-twice c before x y) ∙ all_done-append (events_added c before x) (events_added c (before ++ x) y)
 
 nothing_added : (c : ℕ) (before : List ℕ) → events_added c before [] ≡ []
-nothing_added c before = done (added-twice c before [] [])
-  where
-    none : (xs ys : List Event) → xs ≡ xs ++ ys → ys ≡ []
-    none [] ys e = sym e
-    none (x ∷ xs) ys e = none xs ys (ap (drop 1) e)
-
-    done : events_added c before [] ≡ events_added c before [] ++ events_added c (before ++ []) [] → events_added c before [] ≡ []
-    done e =
-        let last = none (events_added c before []) (events_added c (before ++ []) []) e in
-        subst (λ (b : List ℕ). events_added c b [] ≡ []) (append-nil before) last
+nothing_added c before = grind (arith, common_steps, added-twice, append-nil)
 
 module _ {O W : Type 0} (meanings : Standing O W) (c : ℕ) (old : Decoding) (begun : W) where
   pub fed_none : IsFed meanings c old begun [] old begun
-  fed_none = record {
-    held = λ before is. is ∙ ap held_in (sym (append-nil before));
-    adds = λ before o first h is stands.
-        stands_same meanings o first h (h ++ all_done (events_added c before [])) begun (sym (append-nil h) ∙ ap (λ (x : List Event). h ++ all_done x) (sym (nothing_added c before))) stands;
-  }
+  fed_none = grind (arith, common_steps, append-nil, stands_same, nothing_added)
 
   -- a piece more was dealt with
   pub fed_piece : (bytes piece : List ℕ) (decoder next : Decoding) (now later : W)

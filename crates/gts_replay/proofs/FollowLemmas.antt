@@ -1,6 +1,6 @@
 -- The steps of a capture, as far as some of them were done.
 use Rattle.std.proofs.Common.{◌≡◌, ℕ, ◌+◌, ◌<◌, ◌≤◌, List, [], ◌∷◌, ◌++◌, length, get_or, refl, sym, ap, subst, ◌∙◌, arith, append_assoc, length-append}
-use Rattle.gts_replay.specs.Cited.{AllByRecursion, CaptureKind, Compact, CompactHead, Connections, Directory, Drain, DrainHead, EndHead, EndsBehind, EndsEarlyOf, Entry, Feed, FeedHead, Head, Held, IsHeadIn, IsHeadOf, IsInFeed, IsReadTo, IsStepOf, IsTaken, LONGEST_CAPTURE, ReadingOf, Reopen, ReopenHead, Restart, RestartHead, State, Step, StopsBehind, Take, TakeHead, TakesNoMore, after_all, all_done, bytes_announced, bytes_of_step, compactions, compactions_from, connections_after, entries, entries_from, events_added, head_of, head_text, no_bytes, readable_from, step_text, with_bytes}
+use Rattle.gts_replay.specs.Cited.{AllByRecursion, CaptureKind, Compact, Connections, Directory, EndsBehind, EndsEarlyOf, Entry, Feed, FeedHead, Head, Held, IsHeadIn, IsHeadOf, IsInFeed, IsReadTo, IsStepOf, IsTaken, LONGEST_CAPTURE, ReadingOf, State, Step, StopsBehind, TakesNoMore, after_all, all_done, bytes_announced, bytes_of_step, compactions, compactions_from, connections_after, entries, entries_from, events_added, head_of, head_text, no_bytes, readable_from, step_text, with_bytes}
 use Rattle.std.proofs.lemmas.List.{append-nil, nil_from_length}
 use Rattle.gts_connection.proofs.LawLemmas.{entries_go_on, compactions_go_on, compactions_between}
 use Rattle.gts_replay.proofs.LawLemmas.{one_step, in_feed, head_goes_on, feed_goes_on, taken_feed}
@@ -28,12 +28,7 @@ cut_in kind d bytes steps old mid before left at observed (FeedHead c n) step t 
     let S : Step → Type 0 = λ s. EndsEarlyOf kind d bytes (steps ++ s ∷ []) at in
     let K : ℕ → Type 0 = λ k. EndsEarlyOf kind d bytes (steps ++ Feed c x ∷ []) k in
     subst S (sym feed) (subst K (here ∙ sym (ends.place t)) found)
-cut_in kind d bytes steps old mid before left at observed (TakeHead c) step t read reads valid of ends = absurd (let s = ends.short t in omega (arith, s, reads.feed))
-cut_in kind d bytes steps old mid before left at observed (ReopenHead c) step t read reads valid of ends = absurd (let s = ends.short t in omega (arith, s, reads.feed))
-cut_in kind d bytes steps old mid before left at observed (DrainHead c) step t read reads valid of ends = absurd (let s = ends.short t in omega (arith, s, reads.feed))
-cut_in kind d bytes steps old mid before left at observed RestartHead step t read reads valid of ends = absurd (let s = ends.short t in omega (arith, s, reads.feed))
-cut_in kind d bytes steps old mid before left at observed CompactHead step t read reads valid of ends = absurd (let s = ends.short t in omega (arith, s, reads.feed))
-cut_in kind d bytes steps old mid before left at observed EndHead step t read reads valid of ends = absurd (let s = ends.short t in omega (arith, s, reads.feed))
+cut_in kind d bytes steps old mid before left at observed head step t read reads valid of ends = absurd (let s = ends.short t in omega (arith, s, reads.feed))
 
 -- the source fails in a step: it is a feed
 pub lost_in : (kind : CaptureKind) (d : Directory) (bytes : List ℕ) (steps : List Step) (old mid : Held) (before left after : List ℕ) (observed : Type 0) (head : Head) (step : Step) → observed
@@ -51,12 +46,7 @@ lost_in kind d bytes steps old mid before left after observed (FeedHead c n) ste
     record { read = subst (λ (xs : List ℕ). IsReadTo kind d bytes steps old xs) all read; head = valid; most = omega (arith, short); within = let w = stops.within reads.within in omega (arith, w, here) } in
     let found = taken_feed kind d bytes x after steps old c n f short in
     subst (λ (s : Step). IsTaken kind d bytes (steps ++ s ∷ []) after) (sym feed) found
-lost_in kind d bytes steps old mid before left after observed (TakeHead c) step t read reads valid of stops = absurd (let s = stops.short t in omega (arith, s, reads.feed))
-lost_in kind d bytes steps old mid before left after observed (ReopenHead c) step t read reads valid of stops = absurd (let s = stops.short t in omega (arith, s, reads.feed))
-lost_in kind d bytes steps old mid before left after observed (DrainHead c) step t read reads valid of stops = absurd (let s = stops.short t in omega (arith, s, reads.feed))
-lost_in kind d bytes steps old mid before left after observed RestartHead step t read reads valid of stops = absurd (let s = stops.short t in omega (arith, s, reads.feed))
-lost_in kind d bytes steps old mid before left after observed CompactHead step t read reads valid of stops = absurd (let s = stops.short t in omega (arith, s, reads.feed))
-lost_in kind d bytes steps old mid before left after observed EndHead step t read reads valid of stops = absurd (let s = stops.short t in omega (arith, s, reads.feed))
+lost_in kind d bytes steps old mid before left after observed head step t read reads valid of stops = absurd (let s = stops.short t in omega (arith, s, reads.feed))
 
 abbrev pub AllFrom : ℕ → List ℕ → Type 0
 AllFrom n ks = AllByRecursion (λ k. n ≤ k) ks
@@ -111,11 +101,7 @@ pub record Follows (kind : CaptureKind) (d : Directory) (observed : Type 0) (byt
 
 announced : (step : Step) → length (bytes_of_step step) ≡ bytes_announced (head_of step)
 announced (Feed c x) = refl
-announced (Take c) = refl
-announced (Reopen c) = refl
-announced (Drain c) = refl
-announced Restart = refl
-announced Compact = refl
+announced step = refl
 
 follows_bare : (kind : CaptureKind) (d : Directory) (observed : Type 0) (bytes : List ℕ) (steps : List Step) (step : Step) (old mid : Held) (before left : List ℕ) (head : Head)
     → (observed → IsReadTo kind d bytes steps old (old.ahead ++ before)) → ReadsHead observed head old mid before left → head_of step ≡ head → bytes_announced head ≡ 0 → Follows kind d observed bytes steps step
@@ -221,9 +207,4 @@ follows kind d observed bytes steps step old mid before left (FeedHead c n) read
       compacts = λ e. absurd (cc);
     } in
     subst (λ (s : Step). Follows kind d observed bytes steps s) (sym feed) found
-follows kind d observed bytes steps step old mid before left (TakeHead c) read reads valid of taken = follows_bare kind d observed bytes steps step old mid before left (TakeHead c) read reads of refl
-follows kind d observed bytes steps step old mid before left (ReopenHead c) read reads valid of taken = follows_bare kind d observed bytes steps step old mid before left (ReopenHead c) read reads of refl
-follows kind d observed bytes steps step old mid before left (DrainHead c) read reads valid of taken = follows_bare kind d observed bytes steps step old mid before left (DrainHead c) read reads of refl
-follows kind d observed bytes steps step old mid before left RestartHead read reads valid of taken = follows_bare kind d observed bytes steps step old mid before left RestartHead read reads of refl
-follows kind d observed bytes steps step old mid before left CompactHead read reads valid of taken = follows_bare kind d observed bytes steps step old mid before left CompactHead read reads of refl
-follows kind d observed bytes steps step old mid before left EndHead read reads valid of taken = follows_bare kind d observed bytes steps step old mid before left EndHead read reads of refl
+follows kind d observed bytes steps step old mid before left head read reads valid of taken = follows_bare kind d observed bytes steps step old mid before left head read reads of refl

@@ -8,6 +8,7 @@ use Rattle.std.proofs.lemmas.Grind.{flat_map-append}
 use Rattle.gts_connection.proofs.LawLemmas.{reads, readable-all}
 use Rattle.gts_replay.specs.Held as stopped
 use Rattle.gts_replay.proofs.ProgressLemmas.{are_more, text_more, read_on, feed_on, at_bad}
+use Rattle.std.proofs.lemmas.Grind.{common_steps}
 
 are_all : (kind : CaptureKind) (d : Directory) (steps more : List Step) → AreStepsOf kind d steps → AreStepsOf kind d more → AreStepsOf kind d (steps ++ more)
 are_all kind d [] more are rest = rest
@@ -15,9 +16,7 @@ are_all kind d (s ∷ steps) more are rest = (are.0, are_all kind d steps more a
 
 -- so many bytes in front of a text
 moved : (steps more : List Step) (bytes left tail : List ℕ) → bytes ≡ flat_map step_text steps ++ left → left ≡ flat_map step_text more ++ tail → bytes ≡ flat_map step_text (steps ++ more) ++ tail
-moved steps more bytes left tail e f =
-    e ∙ ap (λ (xs : List ℕ). flat_map step_text steps ++ xs) f ∙ sym (append_assoc (flat_map step_text steps) (flat_map step_text more) tail)
-    ∙ ap (λ (xs : List ℕ). xs ++ tail) (sym (flat_map-append step_text steps more))
+moved steps more bytes left tail e f = grind (arith, common_steps, flat_map-append)
 
 -- steps in front of a reading
 before_reading : (kind : CaptureKind) (d : Directory) (bytes left : List ℕ) (steps more : List Step) (at : ℕ) → AreStepsOf kind d steps → bytes ≡ flat_map step_text steps ++ left → ReadingIn kind d left more at

@@ -1,11 +1,11 @@
 -- The fields of a head, read one behind the other.
-use Rattle.std.proofs.Common.{◌≡◌, ℕ, zero, suc, ◌+◌, ◌-◌, ◌*◌, ◌/◌, ◌%◌, ◌<◌, ◌≤◌, ◌==◌, Bool, true, false, List, [], ◌∷◌, ◌++◌, length, Result, Ok, Err, refl, sym, ap, subst, ◌∙◌, arith, if◌then◌else◌, nat_lt, nat_le}
+use Rattle.std.proofs.Common.{◌≡◌, ℕ, zero, suc, ◌+◌, ◌-◌, ◌*◌, ◌/◌, ◌<◌, ◌≤◌, ◌==◌, Bool, true, false, List, [], ◌∷◌, ◌++◌, length, Result, Ok, Err, refl, sym, ap, subst, ◌∙◌, arith, if◌then◌else◌}
 use Rattle.gts_replay.specs.declared.head_cursor.Stop.TheVariants.{Bad}
 use Rattle.gts_replay.specs.declared.head.Head.{Head}
-use Rattle.gts_replay.specs.Cited.{More, Stop, byte_where, circuit_at, dec, digit_at, digits_at, end_at, is_digit_below, is_in_range, size_at}
+use Rattle.gts_replay.specs.Cited.{More, Stop, byte_where, circuit_at, dec, digit_at, digits_at, end_at, is_digit_below, size_at}
 use Rattle.gts_replay.specs.HeadReading.{◌>>=◌}
 use Rattle.std.proofs.lemmas.Bool.{eqb-true, and_parts, and_from, leb-true, le-leb, lt-ltb}
-use borrow.Author.Tests.{ltb-true}
+use Rattle.std.proofs.lemmas.Grind.{common_steps}
 
 -- ---- texts of heads, each with its head
 
@@ -29,9 +29,7 @@ pub meets_same : (L K : Texts) (bytes : List ℕ) (r : Result (Head × List ℕ)
     → Meets L bytes r → Meets K bytes r
 meets_same L K bytes (Ok found) to from h = (h.0, h.1, to found.0 h.0 h.2)
 meets_same L K bytes (Err More) to from h = (h.0, h.1, h.2, to h.0 (bytes ++ h.1 ∷ h.2) h.3)
-meets_same L K bytes (Err (Bad left)) to from h =
-    let part = h.5 in
-    (h.0, h.1, h.2, h.3, h.4, (part.0, part.1, part.2, to part.0 (h.0 ++ part.1 ∷ part.2) part.3), λ head more k. h.6 head more (from head (h.0 ++ h.1 ∷ more) k))
+meets_same L K bytes (Err (Bad left)) to from h = grind (arith, common_steps)
 
 -- ---- one byte
 
@@ -78,21 +76,13 @@ abbrev DigitThen : ℕ → (ℕ → Texts) → Texts
 DigitThen limit M h t = (d : ℕ) × (u : List ℕ) × (t ≡ (48 + d) ∷ u) × (d < limit) × (d < 10) × M d h u
 
 digit_passes : (limit d : ℕ) → d < limit → d < 10 → is_digit_below limit (48 + d) ≡ true
-digit_passes limit d below small =
-    let value : 48 + d - 48 ≡ d = omega arith in
-    and_from (is_in_range 48 57 (48 + d)) (nat_lt (48 + d - 48) limit) (and_from (nat_le 48 (48 + d)) (nat_le (48 + d) 57) (le-leb 48 (48 + d) (omega arith)) (le-leb (48 + d) 57 (omega arith)))
-    (lt-ltb (48 + d - 48) limit (omega arith))
+digit_passes limit d below small = grind (arith, common_steps, and_from, le-leb, lt-ltb)
 
 abbrev DigitBelow : ℕ → ℕ → Type 0
 DigitBelow limit b = (48 + (b - 48) ≡ b) × (b - 48 < limit) × (b - 48 < 10)
 
 passing_digit : (limit b : ℕ) → is_digit_below limit b ≡ true → DigitBelow limit b
-passing_digit limit b e =
-    let both = and_parts (is_in_range 48 57 b) (nat_lt (b - 48) limit) e in
-    let range = and_parts (nat_le 48 b) (nat_le b 57) both.0 in
-    let from = leb-true 48 b range.0 in
-    let to = leb-true b 57 range.1 in
-    (omega (arith, from), ltb-true (b - 48) limit both.1, omega (arith, from, to))
+passing_digit limit b e = grind (arith, common_steps, and_parts, leb-true)
 
 on_digit : (limit : ℕ) (M : ℕ → Texts) (bytes : List ℕ) (k : ℕ × List ℕ → Result (Head × List ℕ) Stop) → Some (DigitThen limit M)
     → ((d : ℕ) (rest : List ℕ) → d < limit → d < 10 → Meets (M d) rest (k (d, rest))) → Meets (DigitThen limit M) bytes (digit_at limit bytes >>= k)
@@ -111,10 +101,7 @@ on_digit limit M bytes k some then_read =
 
 dec_push : (w m d : ℕ) → d < 10 → dec (suc w) (10 * m + d) ≡ dec w m ++ (48 + d) ∷ []
 unfolding dec
-dec_push w m d small =
-    let front : (10 * m + d) / 10 ≡ m = omega arith in
-    let last : (10 * m + d) % 10 ≡ d = omega arith in
-    ap (λ (n : ℕ). dec w n ++ (48 + (10 * m + d) % 10) ∷ []) front ∙ ap (λ (n : ℕ). dec w m ++ (48 + n) ∷ []) last
+dec_push w m d small = grind (arith, common_steps)
 
 -- ---- a circuit
 
@@ -129,45 +116,11 @@ Tens circuits K = DigitThen ((circuits + 9) / 10) (Units circuits K)
 
 circuit_by_digits : (circuits : ℕ) (K : ℕ → Texts) (h : Head) (t : List ℕ) → circuits ≤ 100 → CircuitThen circuits K h t → ByteThen (λ byte. byte == 32) (λ _. Tens circuits K) h t
 unfolding dec
-circuit_by_digits circuits K h t few w =
-    let c : ℕ = w.0 in
-    let below : c < circuits = w.2 in
-    let tens : c / 10 % 10 ≡ c / 10 = omega (arith, below) in
-    let value : c ≡ 10 * (c / 10) + c % 10 = omega arith in
-    let units : (48 + c / 10 % 10) ∷ ((48 + c % 10) ∷ w.1) ≡ (48 + c / 10) ∷ ((48 + c % 10) ∷ w.1) = ap (λ (x : ℕ). (48 + x) ∷ ((48 + c % 10) ∷ w.1)) tens in (
-      32,
-      (48 + c / 10) ∷ ((48 + c % 10) ∷ w.1),
-      w.3 ∙ ap (λ (xs : List ℕ). 32 ∷ xs) units,
-      refl,
-      (
-        c / 10,
-        (48 + c % 10) ∷ w.1,
-        refl,
-        omega (arith, below),
-        omega (arith, below),
-        (c % 10, w.1, refl, omega (arith, below), omega arith, subst (λ (x : ℕ). K x h w.1) value w.4),
-      ),
-    )
+circuit_by_digits circuits K h t few w = grind (arith, common_steps)
 
 circuit_of_digits : (circuits : ℕ) (K : ℕ → Texts) (h : Head) (t : List ℕ) → ByteThen (λ byte. byte == 32) (λ _. Tens circuits K) h t → CircuitThen circuits K h t
 unfolding dec
-circuit_of_digits circuits K h t w =
-    let tens = w.4 in
-    let a : ℕ = tens.0 in
-    let units = tens.5 in
-    let b : ℕ = units.0 in
-    let blank : w.0 ≡ 32 = eqb-true w.0 32 w.3 in
-    let small_a : a < 10 = tens.4 in
-    let small_b : b < 10 = units.4 in
-    let below : b < circuits - 10 * a = units.3 in
-    let text : dec 2 (10 * a + b) ≡ (48 + a) ∷ ((48 + b) ∷ []) = dec_push 1 a b small_b ∙ ap (λ (xs : List ℕ). xs ++ (48 + b) ∷ []) (ap (dec 1) (let e : a ≡ 10 * 0 + a = omega arith in e) ∙ dec_push 0 0 a small_a) in (
-      10 * a + b,
-      units.1,
-      omega (arith, below),
-      w.2 ∙ ap (λ (x : ℕ). x ∷ w.1) blank ∙ ap (λ (xs : List ℕ). 32 ∷ xs) (tens.2 ∙ ap (λ (xs : List ℕ). (48 + a) ∷ xs) units.2)
-          ∙ ap (λ (xs : List ℕ). 32 ∷ (xs ++ units.1)) (sym text),
-      units.5,
-    )
+circuit_of_digits circuits K h t w = grind (arith, common_steps, eqb-true, dec_push)
 
 pub on_circuit : (circuits : ℕ) (K : ℕ → Texts) (bytes : List ℕ) (k : ℕ × List ℕ → Result (Head × List ℕ) Stop) → 0 < circuits → circuits ≤ 100 → ((c : ℕ) → Some (K c))
     → ((c : ℕ) (rest : List ℕ) → c < circuits → Meets (K c) rest (k (c, rest))) → Meets (CircuitThen circuits K) bytes (circuit_at circuits bytes >>= k)
@@ -215,91 +168,11 @@ on_digits (suc more) number K bytes k inhabited then_read =
 
 size_of_digits : (K : ℕ → Texts) (h : Head) (t : List ℕ) → ByteThen (λ byte. byte == 32) (λ _. DigitsThen 6 0 K) h t → SizeThen K h t
 unfolding dec
-size_of_digits K h t w =
-    let blank : w.0 ≡ 32 = eqb-true w.0 32 w.3 in
-    let a = w.4 in
-    let b = a.5 in
-    let c = b.5 in
-    let d = c.5 in
-    let e = d.5 in
-    let f = e.5 in
-    let n1 : ℕ = 10 * 0 + a.0 in
-    let n2 : ℕ = 10 * n1 + b.0 in
-    let n3 : ℕ = 10 * n2 + c.0 in
-    let n4 : ℕ = 10 * n3 + d.0 in
-    let n5 : ℕ = 10 * n4 + e.0 in
-    let n6 : ℕ = 10 * n5 + f.0 in
-    let one : dec 1 n1 ≡ (48 + a.0) ∷ [] = dec_push 0 0 a.0 a.4 in
-    let two : dec 2 n2 ≡ (48 + a.0) ∷ ((48 + b.0) ∷ []) = dec_push 1 n1 b.0 b.4 ∙ ap (λ (xs : List ℕ). xs ++ (48 + b.0) ∷ []) one in
-    let three : dec 3 n3 ≡ (48 + a.0) ∷ ((48 + b.0) ∷ ((48 + c.0) ∷ [])) = dec_push 2 n2 c.0 c.4 ∙ ap (λ (xs : List ℕ). xs ++ (48 + c.0) ∷ []) two in
-    let four : dec 4 n4 ≡ (48 + a.0) ∷ ((48 + b.0) ∷ ((48 + c.0) ∷ ((48 + d.0) ∷ []))) = dec_push 3 n3 d.0 d.4 ∙ ap (λ (xs : List ℕ). xs ++ (48 + d.0) ∷ []) three in
-    let five : dec 5 n5 ≡ (48 + a.0) ∷ ((48 + b.0) ∷ ((48 + c.0) ∷ ((48 + d.0) ∷ ((48 + e.0) ∷ [])))) = dec_push 4 n4 e.0 e.4 ∙ ap (λ (xs : List ℕ). xs ++ (48 + e.0) ∷ []) four in
-    let six : dec 6 n6 ≡ (48 + a.0) ∷ ((48 + b.0) ∷ ((48 + c.0) ∷ ((48 + d.0) ∷ ((48 + e.0) ∷ ((48 + f.0) ∷ []))))) = dec_push 5 n5 f.0 f.4 ∙ ap (λ (xs : List ℕ). xs ++ (48 + f.0) ∷ []) five in
-    let small : n6 ≤ 999999 = omega (arith, a.4, b.4, c.4, d.4, e.4, f.4) in
-    let digits : w.1 ≡ (48 + a.0) ∷ ((48 + b.0) ∷ ((48 + c.0) ∷ ((48 + d.0) ∷ ((48 + e.0) ∷ ((48 + f.0) ∷ f.1))))) =
-    a.2 ∙ ap (λ (xs : List ℕ). (48 + a.0) ∷ xs) (b.2 ∙ ap (λ (xs : List ℕ). (48 + b.0) ∷ xs) (c.2 ∙ ap (λ (xs : List ℕ). (48 + c.0) ∷ xs)
-    (d.2 ∙ ap (λ (xs : List ℕ). (48 + d.0) ∷ xs) (e.2 ∙ ap (λ (xs : List ℕ). (48 + e.0) ∷ xs) f.2)))) in
-    (n6, f.1, small, w.2 ∙ ap (λ (x : ℕ). x ∷ w.1) blank ∙ ap (λ (xs : List ℕ). 32 ∷ xs) digits ∙ ap (λ (xs : List ℕ). 32 ∷ (xs ++ f.1)) (sym six), f.5)
+size_of_digits K h t w = grind (arith, common_steps, eqb-true, dec_push)
 
 size_by_digits : (K : ℕ → Texts) (h : Head) (t : List ℕ) → SizeThen K h t → ByteThen (λ byte. byte == 32) (λ _. DigitsThen 6 0 K) h t
 unfolding dec
-size_by_digits K h t w =
-    let n : ℕ = w.0 in
-    let u : List ℕ = w.1 in
-    let small : n ≤ 999999 = w.2 in
-    let e : ℕ = n / 10 in
-    let d : ℕ = e / 10 in
-    let c : ℕ = d / 10 in
-    let b : ℕ = c / 10 in
-    let a : ℕ = b / 10 in
-    let value : n ≡ 10 * (10 * (10 * (10 * (10 * (10 * 0 + a % 10) + b % 10) + c % 10) + d % 10) + e % 10) + n % 10 = omega (arith, small) in
-    let u6 : List ℕ = (48 + n % 10) ∷ u in
-    let u5 : List ℕ = (48 + e % 10) ∷ u6 in
-    let u4 : List ℕ = (48 + d % 10) ∷ u5 in
-    let u3 : List ℕ = (48 + c % 10) ∷ u4 in
-    let u2 : List ℕ = (48 + b % 10) ∷ u3 in
-    let u1 : List ℕ = (48 + a % 10) ∷ u2 in (
-      32,
-      u1,
-      w.3,
-      refl,
-      (
-        a % 10,
-        u2,
-        refl,
-        omega arith,
-        omega arith,
-        (
-          b % 10,
-          u3,
-          refl,
-          omega arith,
-          omega arith,
-          (
-            c % 10,
-            u4,
-            refl,
-            omega arith,
-            omega arith,
-            (
-              d % 10,
-              u5,
-              refl,
-              omega arith,
-              omega arith,
-              (
-                e % 10,
-                u6,
-                refl,
-                omega arith,
-                omega arith,
-                (n % 10, u, refl, omega arith, omega arith, subst (λ (x : ℕ). K x h u) value w.4),
-              ),
-            ),
-          ),
-        ),
-      ),
-    )
+size_by_digits K h t w = grind (arith, common_steps)
 
 pub on_size : (K : ℕ → Texts) (bytes : List ℕ) (k : ℕ × List ℕ → Result (Head × List ℕ) Stop) → ((n : ℕ) → Some (K n))
     → ((n : ℕ) (rest : List ℕ) → Meets (K n) rest (k (n, rest))) → Meets (SizeThen K) bytes (size_at bytes >>= k)

@@ -1,15 +1,15 @@
 -- A head that is read is there, and is refused only where no head stands.
-use Rattle.std.proofs.Common.{◌≡◌, ℕ, ◌<◌, ◌≤◌, ◌==◌, Bool, true, false, List, [], ◌∷◌, ◌++◌, get_or, drop, Result, Ok, Err, refl, sym, ap, subst, ◌∙◌, append_assoc, arith, if◌then◌else◌, nat_lt, ◌&&◌, ◌||◌}
+use Rattle.std.proofs.Common.{◌≡◌, ℕ, ◌<◌, ◌≤◌, ◌==◌, Bool, true, false, List, [], ◌∷◌, ◌++◌, get_or, drop, Result, Ok, Err, refl, sym, ap, subst, ◌∙◌, arith, if◌then◌else◌, nat_lt, ◌&&◌, ◌||◌}
 use Rattle.std.proofs.lemmas.Bool.{false≢true, eqb-true, lt-ltb}
 use borrow.Author.Tests.{ltb-true}
-use Rattle.gts_replay.specs.declared.head_cursor.Stop.TheVariants.{Bad}
-use Rattle.gts_replay.specs.Cited.{BeginsWithHead, CaptureKind, End, IsFrontIn, IsHeadIn, IsPartIn, IsStop, Journaled, More, Stop, Traffic, behind_letter, byte_where, circuit_at, dec, end_at, has_journal, head_at, head_text, is_letter, size_at}
+use Rattle.gts_replay.specs.Cited.{BeginsWithHead, CaptureKind, End, IsHeadIn, IsStop, Journaled, Stop, Traffic, behind_letter, byte_where, circuit_at, dec, end_at, has_journal, head_at, head_text, is_letter, size_at}
 use Rattle.gts_replay.specs.declared.head.Head.TheVariants.{Compact, Drain, Feed, Reopen, Restart, Take}
 use Rattle.gts_replay.specs.declared.head.Head.{Head}
 use Rattle.gts_replay.specs.Heads.{head_of}
 use Rattle.gts_replay.specs.HeadReading.{◌>>=◌}
 use Rattle.gts_connection.specs.Capture as capture
-use Rattle.gts_replay.proofs.HeadFieldLemmas.{Texts, Part, Meets, meets_same, ByteThen, on_byte, CircuitThen, on_circuit, SizeThen, on_size, Ended, some_ended, on_end}
+use Rattle.gts_replay.proofs.HeadFieldLemmas.{Texts, Meets, meets_same, ByteThen, on_byte, CircuitThen, on_circuit, SizeThen, on_size, Ended, some_ended, on_end}
+use Rattle.std.proofs.lemmas.Grind.{common_steps}
 
 -- ---- heads by their first byte
 
@@ -21,106 +21,54 @@ Behind circuits kind byte h t = HeadText circuits kind h (byte ∷ t)
 
 feed_to : (circuits : ℕ) (kind : CaptureKind) (h : Head) (t : List ℕ) → CircuitThen circuits (λ c. SizeThen (λ n. Ended (Feed c n))) h t → Behind circuits kind 70 h t
 unfolding dec
-feed_to circuits kind h t w =
-    let size = w.4 in
-    let end = size.4 in
-    let text : t ≡ 32 ∷ (dec 2 w.0 ++ 32 ∷ (dec 6 size.0 ++ 10 ∷ [])) =
-    w.3 ∙ ap (λ (xs : List ℕ). 32 ∷ (dec 2 w.0 ++ xs)) (size.3 ∙ ap (λ (xs : List ℕ). 32 ∷ (dec 6 size.0 ++ xs)) end.1) in
-    let P : Head → Type 0 = λ x. HeadText circuits kind x (70 ∷ t) in
-    subst P (sym end.0) ((w.2, size.2), ap (λ (xs : List ℕ). 70 ∷ xs) (sym text))
+feed_to circuits kind h t w = grind (arith, common_steps)
 
 feed_from : (circuits : ℕ) (kind : CaptureKind) (h : Head) (t : List ℕ) → Behind circuits kind 70 h t → CircuitThen circuits (λ c. SizeThen (λ n. Ended (Feed c n))) h t
 unfolding dec
 feed_from circuits kind (Feed c n) t w = (c, 32 ∷ (dec 6 n ++ 10 ∷ []), w.0.0, sym (ap (λ (xs : List ℕ). drop 1 xs) w.1), (n, 10 ∷ [], w.0.1, refl, (refl, refl)))
-feed_from circuits kind (Take c) t w = absurd (omega (arith, ap (λ (xs : List ℕ). get_or xs 0 0) w.1))
-feed_from circuits kind (Reopen c) t w = absurd (omega (arith, ap (λ (xs : List ℕ). get_or xs 0 0) w.1))
-feed_from circuits kind (Drain c) t w = absurd (omega (arith, ap (λ (xs : List ℕ). get_or xs 0 0) w.1))
-feed_from circuits kind Restart t w = absurd (omega (arith, ap (λ (xs : List ℕ). get_or xs 0 0) w.1))
-feed_from circuits kind Compact t w = absurd (omega (arith, ap (λ (xs : List ℕ). get_or xs 0 0) w.1))
-feed_from circuits kind End t w = absurd (omega (arith, ap (λ (xs : List ℕ). get_or xs 0 0) w.1))
-
--- a head that names a circuit alone
-named_text : (circuits : ℕ) (make : ℕ → Head) (h : Head) (t : List ℕ) → CircuitThen circuits (λ c. Ended (make c)) h t
-    → (c : ℕ) × (c < circuits) × (h ≡ make c) × (t ≡ 32 ∷ (dec 2 c ++ 10 ∷ []))
-named_text circuits make h t w = (w.0, w.2, w.4.0, w.3 ∙ ap (λ (xs : List ℕ). 32 ∷ (dec 2 w.0 ++ xs)) w.4.1)
+feed_from circuits kind h t w = absurd (omega (arith, ap (λ (xs : List ℕ). get_or xs 0 0) w.1))
 
 take_to : (circuits : ℕ) (kind : CaptureKind) (h : Head) (t : List ℕ) → CircuitThen circuits (λ c. Ended (Take c)) h t → Behind circuits kind 84 h t
 unfolding dec
-take_to circuits kind h t w =
-    let n = named_text circuits Take h t w in
-    let P : Head → Type 0 = λ x. HeadText circuits kind x (84 ∷ t) in subst P (sym n.2) (n.1, ap (λ (xs : List ℕ). 84 ∷ xs) (sym n.3))
+take_to circuits kind h t w = grind (arith, common_steps)
 
 take_from : (circuits : ℕ) (kind : CaptureKind) (h : Head) (t : List ℕ) → Behind circuits kind 84 h t → CircuitThen circuits (λ c. Ended (Take c)) h t
 unfolding dec
 take_from circuits kind (Take c) t w = (c, 10 ∷ [], w.0, sym (ap (λ (xs : List ℕ). drop 1 xs) w.1), (refl, refl))
-take_from circuits kind (Feed c n) t w = absurd (omega (arith, ap (λ (xs : List ℕ). get_or xs 0 0) w.1))
-take_from circuits kind (Reopen c) t w = absurd (omega (arith, ap (λ (xs : List ℕ). get_or xs 0 0) w.1))
-take_from circuits kind (Drain c) t w = absurd (omega (arith, ap (λ (xs : List ℕ). get_or xs 0 0) w.1))
-take_from circuits kind Restart t w = absurd (omega (arith, ap (λ (xs : List ℕ). get_or xs 0 0) w.1))
-take_from circuits kind Compact t w = absurd (omega (arith, ap (λ (xs : List ℕ). get_or xs 0 0) w.1))
-take_from circuits kind End t w = absurd (omega (arith, ap (λ (xs : List ℕ). get_or xs 0 0) w.1))
+take_from circuits kind h t w = absurd (omega (arith, ap (λ (xs : List ℕ). get_or xs 0 0) w.1))
 
 reopen_to : (circuits : ℕ) (kind : CaptureKind) (h : Head) (t : List ℕ) → CircuitThen circuits (λ c. Ended (Reopen c)) h t → Behind circuits kind 79 h t
 unfolding dec
-reopen_to circuits kind h t w =
-    let n = named_text circuits Reopen h t w in
-    let P : Head → Type 0 = λ x. HeadText circuits kind x (79 ∷ t) in subst P (sym n.2) (n.1, ap (λ (xs : List ℕ). 79 ∷ xs) (sym n.3))
+reopen_to circuits kind h t w = grind (arith, common_steps)
 
 reopen_from : (circuits : ℕ) (kind : CaptureKind) (h : Head) (t : List ℕ) → Behind circuits kind 79 h t → CircuitThen circuits (λ c. Ended (Reopen c)) h t
 unfolding dec
 reopen_from circuits kind (Reopen c) t w = (c, 10 ∷ [], w.0, sym (ap (λ (xs : List ℕ). drop 1 xs) w.1), (refl, refl))
-reopen_from circuits kind (Feed c n) t w = absurd (omega (arith, ap (λ (xs : List ℕ). get_or xs 0 0) w.1))
-reopen_from circuits kind (Take c) t w = absurd (omega (arith, ap (λ (xs : List ℕ). get_or xs 0 0) w.1))
-reopen_from circuits kind (Drain c) t w = absurd (omega (arith, ap (λ (xs : List ℕ). get_or xs 0 0) w.1))
-reopen_from circuits kind Restart t w = absurd (omega (arith, ap (λ (xs : List ℕ). get_or xs 0 0) w.1))
-reopen_from circuits kind Compact t w = absurd (omega (arith, ap (λ (xs : List ℕ). get_or xs 0 0) w.1))
-reopen_from circuits kind End t w = absurd (omega (arith, ap (λ (xs : List ℕ). get_or xs 0 0) w.1))
+reopen_from circuits kind h t w = absurd (omega (arith, ap (λ (xs : List ℕ). get_or xs 0 0) w.1))
 
 drain_to : (circuits : ℕ) (kind : CaptureKind) (h : Head) (t : List ℕ) → CircuitThen circuits (λ c. Ended (Drain c)) h t → Behind circuits kind 68 h t
 unfolding dec
-drain_to circuits kind h t w =
-    let n = named_text circuits Drain h t w in
-    let P : Head → Type 0 = λ x. HeadText circuits kind x (68 ∷ t) in subst P (sym n.2) (n.1, ap (λ (xs : List ℕ). 68 ∷ xs) (sym n.3))
+drain_to circuits kind h t w = grind (arith, common_steps)
 
 drain_from : (circuits : ℕ) (kind : CaptureKind) (h : Head) (t : List ℕ) → Behind circuits kind 68 h t → CircuitThen circuits (λ c. Ended (Drain c)) h t
 unfolding dec
 drain_from circuits kind (Drain c) t w = (c, 10 ∷ [], w.0, sym (ap (λ (xs : List ℕ). drop 1 xs) w.1), (refl, refl))
-drain_from circuits kind (Feed c n) t w = absurd (omega (arith, ap (λ (xs : List ℕ). get_or xs 0 0) w.1))
-drain_from circuits kind (Take c) t w = absurd (omega (arith, ap (λ (xs : List ℕ). get_or xs 0 0) w.1))
-drain_from circuits kind (Reopen c) t w = absurd (omega (arith, ap (λ (xs : List ℕ). get_or xs 0 0) w.1))
-drain_from circuits kind Restart t w = absurd (omega (arith, ap (λ (xs : List ℕ). get_or xs 0 0) w.1))
-drain_from circuits kind Compact t w = absurd (omega (arith, ap (λ (xs : List ℕ). get_or xs 0 0) w.1))
-drain_from circuits kind End t w = absurd (omega (arith, ap (λ (xs : List ℕ). get_or xs 0 0) w.1))
+drain_from circuits kind h t w = absurd (omega (arith, ap (λ (xs : List ℕ). get_or xs 0 0) w.1))
 
 restart_from : (circuits : ℕ) (kind : CaptureKind) (h : Head) (t : List ℕ) → Behind circuits kind 82 h t → Ended Restart h t
 unfolding dec
 restart_from circuits kind Restart t w = (refl, sym (ap (λ (xs : List ℕ). drop 1 xs) w.1))
-restart_from circuits kind (Feed c n) t w = absurd (omega (arith, ap (λ (xs : List ℕ). get_or xs 0 0) w.1))
-restart_from circuits kind (Take c) t w = absurd (omega (arith, ap (λ (xs : List ℕ). get_or xs 0 0) w.1))
-restart_from circuits kind (Reopen c) t w = absurd (omega (arith, ap (λ (xs : List ℕ). get_or xs 0 0) w.1))
-restart_from circuits kind (Drain c) t w = absurd (omega (arith, ap (λ (xs : List ℕ). get_or xs 0 0) w.1))
-restart_from circuits kind Compact t w = absurd (omega (arith, ap (λ (xs : List ℕ). get_or xs 0 0) w.1))
-restart_from circuits kind End t w = absurd (omega (arith, ap (λ (xs : List ℕ). get_or xs 0 0) w.1))
+restart_from circuits kind h t w = absurd (omega (arith, ap (λ (xs : List ℕ). get_or xs 0 0) w.1))
 
 compact_from : (circuits : ℕ) (kind : CaptureKind) (h : Head) (t : List ℕ) → Behind circuits kind 67 h t → Ended Compact h t
 unfolding dec
 compact_from circuits kind Compact t w = (refl, sym (ap (λ (xs : List ℕ). drop 1 xs) w.1))
-compact_from circuits kind (Feed c n) t w = absurd (omega (arith, ap (λ (xs : List ℕ). get_or xs 0 0) w.1))
-compact_from circuits kind (Take c) t w = absurd (omega (arith, ap (λ (xs : List ℕ). get_or xs 0 0) w.1))
-compact_from circuits kind (Reopen c) t w = absurd (omega (arith, ap (λ (xs : List ℕ). get_or xs 0 0) w.1))
-compact_from circuits kind (Drain c) t w = absurd (omega (arith, ap (λ (xs : List ℕ). get_or xs 0 0) w.1))
-compact_from circuits kind Restart t w = absurd (omega (arith, ap (λ (xs : List ℕ). get_or xs 0 0) w.1))
-compact_from circuits kind End t w = absurd (omega (arith, ap (λ (xs : List ℕ). get_or xs 0 0) w.1))
+compact_from circuits kind h t w = absurd (omega (arith, ap (λ (xs : List ℕ). get_or xs 0 0) w.1))
 
 end_from : (circuits : ℕ) (kind : CaptureKind) (h : Head) (t : List ℕ) → Behind circuits kind 69 h t → Ended End h t
 unfolding dec
 end_from circuits kind End t w = (refl, sym (ap (λ (xs : List ℕ). drop 1 xs) w.1))
-end_from circuits kind (Feed c n) t w = absurd (omega (arith, ap (λ (xs : List ℕ). get_or xs 0 0) w.1))
-end_from circuits kind (Take c) t w = absurd (omega (arith, ap (λ (xs : List ℕ). get_or xs 0 0) w.1))
-end_from circuits kind (Reopen c) t w = absurd (omega (arith, ap (λ (xs : List ℕ). get_or xs 0 0) w.1))
-end_from circuits kind (Drain c) t w = absurd (omega (arith, ap (λ (xs : List ℕ). get_or xs 0 0) w.1))
-end_from circuits kind Restart t w = absurd (omega (arith, ap (λ (xs : List ℕ). get_or xs 0 0) w.1))
-end_from circuits kind Compact t w = absurd (omega (arith, ap (λ (xs : List ℕ). get_or xs 0 0) w.1))
+end_from circuits kind h t w = absurd (omega (arith, ap (λ (xs : List ℕ). get_or xs 0 0) w.1))
 
 -- ---- what a first byte says
 
@@ -259,30 +207,11 @@ program_head capture.EndHead = End
 same_head : (circuits : ℕ) (kind : CaptureKind) (h : capture.Head) → IsHeadIn circuits kind h → head_of (program_head h) ≡ h
 unfolding program_head
 same_head circuits kind (capture.FeedHead c n) valid = refl
-same_head circuits kind (capture.TakeHead c) valid = refl
-same_head circuits kind (capture.ReopenHead c) valid = refl
-same_head circuits kind (capture.DrainHead c) valid = refl
-same_head circuits kind capture.RestartHead valid = refl
-same_head circuits kind capture.CompactHead valid = refl
-same_head circuits kind capture.EndHead valid = refl
+same_head circuits kind h valid = refl
 
 pub head_found : (circuits : ℕ) (kind : CaptureKind) (bytes : List ℕ) (head : Head) (rest : List ℕ) → circuits ≤ 100 → head_at circuits kind bytes ≡ Ok (head, rest)
     → BeginsWithHead circuits kind bytes head rest
-head_found circuits kind bytes head rest few e =
-    let found = subst (Meets (HeadText circuits kind) bytes) e (head_meets circuits kind bytes few) in
-    record { valid = found.2.0; text = found.1 ∙ ap (λ (xs : List ℕ). xs ++ rest) (sym found.2.1) }
+head_found circuits kind bytes head rest few e = grind (arith, common_steps, head_meets)
 
 pub head_stops : (circuits : ℕ) (kind : CaptureKind) (bytes : List ℕ) (stop : Stop) → circuits ≤ 100 → head_at circuits kind bytes ≡ Err stop → IsStop circuits kind bytes stop
-head_stops circuits kind bytes stop few e = go stop (subst (Meets (HeadText circuits kind) bytes) e (head_meets circuits kind bytes few))
-  where
-    part : (front : List ℕ) → Part (HeadText circuits kind) front → IsPartIn circuits kind front
-    part front h = (head_of h.0, h.1, h.2, h.3.0, h.3.1)
-
-    none : (front : List ℕ) (byte : ℕ) → ((head : Head) (more : List ℕ) → HeadText circuits kind head (front ++ byte ∷ more) → ⊥) → IsFrontIn circuits kind (front ++ byte ∷ []) → ⊥
-    none front byte bad h =
-        let P : capture.Head → Type 0 = λ x. IsHeadIn circuits kind x × (head_text x ≡ front ++ byte ∷ h.1) in
-        bad (program_head h.0) h.1 (subst P (sym (same_head circuits kind h.0 h.2)) (h.2, h.3 ∙ append_assoc front (byte ∷ []) h.1))
-
-    go : (s : Stop) → Meets (HeadText circuits kind) bytes (Err s) → IsStop circuits kind bytes s
-    go More h = part bytes h
-    go (Bad left) h = (h.0, h.1, h.2, h.3, h.4, part h.0 h.5, none h.0 h.1 h.6)
+head_stops circuits kind bytes stop few e = grind (arith, common_steps, head_meets, same_head)

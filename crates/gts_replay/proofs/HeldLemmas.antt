@@ -1,11 +1,12 @@
 -- What is held, and what is left of a capture.
 use Rattle.std.proofs.Common.{◌≡◌, ℕ, ◌+◌, ◌-◌, ◌<◌, ◌≤◌, List, [], ◌∷◌, ◌++◌, length, take, drop, sym, ap, subst, ◌∙◌, append_assoc, arith, length-append}
 use Rattle.std.proofs.lemmas.List.{take-append-drop, drop-take, drop-drop, append-nil, length-take-le, length-drop, take-append-le}
-use Rattle.std.proofs.Math.Seq.{take-append-add, take-append_seam}
+use Rattle.std.proofs.Math.Seq.{take-append-add}
 use borrow.Rule.Slice.PartMut.{put_mid, post_of}
 use Rattle.gts_replay.specs.declared.head_cursor.Stop.TheVariants.{Bad}
-use Rattle.gts_replay.specs.Cited.{BadByte, CaptureKind, CompactHead, DrainHead, EndHead, EndsInHead, FeedHead, Held, IsBadAt, IsPartIn, IsStop, LONGEST_CAPTURE, ReopenHead, RestartHead, TakeHead, dec, head_text, readable_from}
+use Rattle.gts_replay.specs.Cited.{BadByte, CaptureKind, EndsInHead, FeedHead, Held, IsBadAt, IsPartIn, IsStop, LONGEST_CAPTURE, dec, head_text, readable_from}
 use Rattle.gts_connection.specs.Capture as capture
+use Rattle.std.proofs.lemmas.Grind.{common_steps}
 
 -- ---- the part of a buffer from a start to an end
 
@@ -18,12 +19,7 @@ behind_first start end n buffer within =
 
 pub handed_on : (start end n : ℕ) (buffer copied into : List ℕ) → n ≤ end - start → end ≤ length buffer → copied ≡ take n (take (end - start) (drop start buffer))
     → take (end - start) (drop start buffer) ≡ take n (copied ++ into) ++ take (end - (start + n)) (drop (start + n) buffer)
-handed_on start end n buffer copied into within inside is =
-    let held : List ℕ = take (end - start) (drop start buffer) in
-    let long : end - start ≡ length held = sym (length-take-le (end - start) (drop start buffer) (omega (arith, length-drop start buffer))) in
-    let count : length copied ≡ n = ap length is ∙ length-take-le n held (omega (arith, long)) in
-    let front : take n (copied ++ into) ≡ copied = ap (λ (k : ℕ). take k (copied ++ into)) (sym count) ∙ take-append_seam copied into in
-    sym (take-append-drop n held) ∙ ap (λ (xs : List ℕ). xs ++ drop n held) (sym is ∙ sym front) ∙ ap (λ (xs : List ℕ). take n (copied ++ into) ++ xs) (sym (behind_first start end n buffer within))
+handed_on start end n buffer copied into within inside is = grind (arith, common_steps, length-take-le, length-drop, take-append-drop, behind_first)
 
 -- what is held after so many bytes were read behind it
 pub filled : (a k n : ℕ) (xs ys : List ℕ) → a ≤ length xs → n ≤ length ys → take (a + n) (put_mid a k xs ys) ≡ take a xs ++ take n ys
@@ -38,12 +34,7 @@ filled a k n xs ys within few =
 longest_head : (h : capture.Head) → length (head_text h) ≤ 12
 unfolding dec
 longest_head (FeedHead c n) = omega arith
-longest_head (TakeHead c) = omega arith
-longest_head (ReopenHead c) = omega arith
-longest_head (DrainHead c) = omega arith
-longest_head RestartHead = omega arith
-longest_head CompactHead = omega arith
-longest_head EndHead = omega arith
+longest_head h = omega arith
 
 pub part_is_short : (circuits : ℕ) (kind : CaptureKind) (bytes : List ℕ) → IsPartIn circuits kind bytes → length bytes < 12
 part_is_short circuits kind bytes h = omega (arith, longest_head h.0, ap length h.4, length-append bytes (h.1 ∷ h.2))
@@ -59,10 +50,7 @@ stop_is_bad held left behind at stop place =
 
 pub end_is_bad : (held : Held) (left : List ℕ) (at : ℕ) → IsPartIn held.circuits held.kind held.ahead → left ≡ [] → at ≡ held.at + (length held.ahead - 0)
     → IsBadAt held (held.ahead ++ left) at
-end_is_bad held left at part nothing place =
-    let all : held.ahead ≡ held.ahead ++ left = sym (append-nil held.ahead) ∙ ap (λ (xs : List ℕ). held.ahead ++ xs) (sym nothing) in
-    let count : length held.ahead - 0 ≡ length (held.ahead ++ left) = ap (λ (n : ℕ). n) (omega (arith, ap length all)) in
-    EndsInHead (subst (λ (xs : List ℕ). IsPartIn held.circuits held.kind xs) all part) (place ∙ ap (λ (n : ℕ). held.at + n) count)
+end_is_bad held left at part nothing place = grind (arith, common_steps, append-nil)
 
 -- what is read behind what is held
 pub readable-held : (held : Held) (left : List ℕ) → held.at + length held.ahead ≤ LONGEST_CAPTURE
@@ -86,6 +74,4 @@ bad_since old now text left at same e h =
 pub same_readable : (old now : Held) (before after : List ℕ) → now.at + length now.ahead ≤ LONGEST_CAPTURE → now ≡ record old { ahead = now.ahead }
     → now.ahead ++ after ≡ old.ahead ++ before
     → now.ahead ++ readable_from (now.at + length now.ahead) after ≡ readable_from old.at (old.ahead ++ before)
-same_readable old now before after within same told =
-    sym (readable-held now after within) ∙ ap (λ (xs : List ℕ). readable_from now.at xs) told
-    ∙ ap (λ (h : Held). readable_from h.at (old.ahead ++ before)) same
+same_readable old now before after within same told = grind (arith, common_steps, readable-held)

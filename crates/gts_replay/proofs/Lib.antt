@@ -8,7 +8,6 @@ pub mod RunLemmas
 pub mod FollowLemmas
 pub mod BreakingLemmas
 pub mod EndLemmas
-pub mod CauseLemmas
 pub mod OriginLemmas
 pub mod HeadFieldLemmas
 pub mod HeadLemmas

@@ -1,11 +1,12 @@
 -- The origin as the journal is compacted.
 use Rattle.std.proofs.Common.{◌≡◌, ℕ, ◌+◌, ◌<◌, ◌≤◌, Bool, true, false, nat_le, cond, List, [], ◌∷◌, ◌++◌, length, take, refl, sym, ap, ◌∙◌, arith, length-append}
-use Rattle.gts_replay.specs.Cited.{AllByRecursion, Compact, Directory, Drain, Entry, Feed, Reopen, Restart, Standing, State, Step, Take, compacted_at, compactions_at, count_at, done_by, entries_at, no_bytes, origin_after, origin_behind, state_at}
+use Rattle.gts_replay.specs.Cited.{AllByRecursion, Compact, Directory, Entry, Standing, State, Step, compacted_at, compactions_at, count_at, done_by, entries_at, no_bytes, origin_after, origin_behind, state_at}
 use Rattle.std.proofs.lemmas.Bool.{le-leb, leb-true}
 use Rattle.std.proofs.lemmas.List.{append-nil, take-append-le}
 use Rattle.std.proofs.lemmas.List.Elements.{filter-append}
 use Rattle.std.proofs.Math.Seq.{take-append_seam}
 use Rattle.gts_connection.proofs.LawLemmas.{compactions_go_on, compactions_between}
+use Rattle.std.proofs.lemmas.Grind.{common_steps}
 
 abbrev pub AllWithin : ℕ → List ℕ → Type 0
 AllWithin n ks = AllByRecursion (λ k. k ≤ n) ks
@@ -57,12 +58,8 @@ module _ {O W : Type 0} (meanings : Standing O W) where
 
   -- the compaction of a step behind entries
   one_compacted : (o : O) (h x : List Entry) (step : Step) → compacted_at meanings o (h ++ x) (count_at (length h) step) ≡ origin_after meanings o h step
-  one_compacted o h x (Feed c bytes) = refl
-  one_compacted o h x (Take c) = refl
-  one_compacted o h x (Reopen c) = refl
-  one_compacted o h x (Drain c) = refl
-  one_compacted o h x Restart = refl
   one_compacted o h x Compact = ap (λ (t : List Entry). meanings.compacts o t) (take-append_seam h x)
+  one_compacted o h x step = refl
 
   -- the origin behind a front is the same, whatever is compacted behind it
   pub origin_is : (o : O) (x y front tail : List Entry) (ks later : List ℕ) → x ++ y ≡ front ++ tail → AllWithin (length x) ks → AllWithin (length front) ks → AllBehind (length front) later
@@ -96,17 +93,9 @@ module _ {O W : Type 0} (meanings : Standing O W) where
 
     -- the compactions of one step more
     pub counts_more : (step : Step) → compactions_at meanings begun o h (steps ++ step ∷ []) ≡ ks ++ count_at (length (h ++ es)) step
-    counts_more step =
-        compactions_go_on d s (length h) steps (step ∷ []) ∙ ap (λ (xs : List ℕ). ks ++ xs) (append-nil (count_at (length h + length es) step))
-        ∙ ap (λ (n : ℕ). ks ++ count_at n step) (sym (length-append h es))
+    counts_more step = grind (arith, common_steps, compactions_go_on, append-nil)
 
     pub origin_more : (step : Step) (added : List Entry) → h ++ entries_at meanings begun o h (steps ++ step ∷ []) ≡ (h ++ es) ++ added
         → compacted_at meanings o (h ++ entries_at meanings begun o h (steps ++ step ∷ [])) (compactions_at meanings begun o h (steps ++ step ∷ []))
         ≡ origin_after meanings (compacted_at meanings o (h ++ es) ks) (h ++ es) step
-    origin_more step added is =
-        let one : List ℕ = count_at (length (h ++ es)) step in
-        ap (λ (x : List Entry). compacted_at meanings o x (compactions_at meanings begun o h (steps ++ step ∷ []))) is
-        ∙ ap (λ (xs : List ℕ). compacted_at meanings o ((h ++ es) ++ added) xs) (counts_more step)
-        ∙ compacted_append o ((h ++ es) ++ added) ks one
-        ∙ ap (λ (p : O). compacted_at meanings p ((h ++ es) ++ added) one) (compacted_front o (h ++ es) added ks counts_within)
-        ∙ one_compacted (compacted_at meanings o (h ++ es) ks) (h ++ es) added step
+    origin_more step added is = grind (arith, common_steps, counts_more, compacted_append, compacted_front, counts_within, one_compacted)

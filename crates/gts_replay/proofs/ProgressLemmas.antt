@@ -5,6 +5,7 @@ use Rattle.gts_connection.specs.Capture.{Feed, Head, head_of, Bad, EndsInHead, E
 use Rattle.std.proofs.lemmas.List.{append-nil}
 use Rattle.gts_connection.proofs.LawLemmas.{readable-behind}
 use Rattle.gts_replay.specs.Held as stopped
+use Rattle.std.proofs.lemmas.Grind.{common_steps}
 
 -- ---- heads of a directory
 
@@ -33,40 +34,19 @@ text_more (s ∷ steps) step = ap (λ (xs : List ℕ). step_text s ++ xs) (text_
 
 pub begins : (kind : CaptureKind) (d : Directory) (bytes : List ℕ) (held : Held)
     → held ≡ record { circuits = length d.circuits; kind = kind; ahead = []; at = 0; feed = 0 } → IsReadTo kind d bytes [] held bytes
-begins kind d bytes held e = record {
-  circuits = ap (λ (h : Held). h.circuits) e;
-  of_kind = ap (λ (h : Held). h.kind) e;
-  are = tt;
-  text = refl;
-  place = ap (λ (h : Held). h.at) e;
-  within = let at = ap (λ (h : Held). h.at) e in omega (arith, at);
-}
+begins kind d bytes held e = grind (arith, common_steps)
 
 pub one_step : (kind : CaptureKind) (d : Directory) (bytes before after : List ℕ) (steps : List Step) (step : Step) (old new : Held) → IsReadTo kind d bytes steps old before
     → IsHeadIn old.circuits old.kind (head_of step) → before ≡ step_text step ++ after → IsSameCapture old new
     → new.at ≡ old.at + length (step_text step) → new.at ≤ LONGEST_CAPTURE → IsReadTo kind d bytes (steps ++ step ∷ []) new after
-one_step kind d bytes before after steps step old new h valid e same place within =
-    let front : List ℕ = flat_map step_text steps in
-    let text : bytes ≡ flat_map step_text (steps ++ step ∷ []) ++ after =
-    h.text ∙ ap (λ (xs : List ℕ). front ++ xs) e ∙ sym (append_assoc front (step_text step) after) ∙ ap (λ (xs : List ℕ). xs ++ after) (sym (text_more steps step)) in
-    let read : length (flat_map step_text (steps ++ step ∷ [])) ≡ length front + length (step_text step) = ap length (text_more steps step) ∙ length-append front (step_text step) in
-    record {
-      circuits = same.circuits ∙ h.circuits;
-      of_kind = same.kind ∙ h.of_kind;
-      are = are_more kind d steps step h.are (head_in kind d old.circuits old.kind h.circuits h.of_kind (head_of step) valid);
-      text = text;
-      place = omega (arith, place, h.place, read);
-      within = within;
-    }
+one_step kind d bytes before after steps step old new h valid e same place within = grind (arith, common_steps, text_more, are_more)
 
 -- ---- how it ends
 
 -- what is read of the bytes: the steps, and what is read of what is left
 pub read_on : (kind : CaptureKind) (d : Directory) (bytes left : List ℕ) (steps : List Step) (held : Held) → IsReadTo kind d bytes steps held left
     → readable bytes ≡ flat_map step_text steps ++ readable_from held.at left
-read_on kind d bytes left steps held h =
-    let front : List ℕ = flat_map step_text steps in
-    ap readable h.text ∙ readable-behind front left (omega (arith, h.place, h.within)) ∙ ap (λ (n : ℕ). front ++ readable_from n left) (sym h.place)
+read_on kind d bytes left steps held h = grind (arith, common_steps, readable-behind)
 
 pub at_end : (kind : CaptureKind) (d : Directory) (bytes after : List ℕ) (steps : List Step) (held : Held) → IsReadTo kind d bytes steps held (head_text EndHead ++ after)
     → held.at + length (head_text EndHead) ≤ LONGEST_CAPTURE → IsWholeOf kind d bytes steps

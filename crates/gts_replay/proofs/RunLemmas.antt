@@ -1,12 +1,13 @@
 -- Steps of a capture, one after another.
-use Rattle.std.proofs.Common.{◌≡◌, ℕ, ◌+◌, ◌≤◌, List, [], ◌∷◌, ◌++◌, length, Ok, refl, sym, ap, subst, ◌∙◌, arith, append_assoc, length-append}
+use Rattle.std.proofs.Common.{◌≡◌, ℕ, ◌+◌, ◌≤◌, List, [], ◌∷◌, ◌++◌, length, Ok, sym, ap, subst, ◌∙◌, arith, append_assoc, length-append}
 use Rattle.std.proofs.lemmas.List.{append-nil}
-use Rattle.gts_replay.specs.Cited.{AreStepsOf, CaptureKind, Compact, CompactHead, Connections, Decode, Decoding, Directory, DoesStep, Drain, DrainHead, EndHead, Entry, Feed, FeedHead, Head, Held, IsHeadIn, IsHeadOf, IsReadTo, IsSameCapture, IsStart, IsStepOf, LONGEST_CAPTURE, Reopen, ReopenHead, Restart, RestartHead, Standing, Stands, StandsFor, State, Step, Take, TakeHead, Takes, after_all, after_step, at_start, bytes_announced, bytes_of_step, compacted_at, compactions_at, connections_after, count_at, entries_at, entries_of_step, first_after, head_of, head_text, no_bytes, origin_after, state_at, step_text}
+use Rattle.gts_replay.specs.Cited.{AreStepsOf, CaptureKind, Compact, Connections, Decode, Decoding, Directory, DoesStep, Entry, FeedHead, Head, Held, IsHeadIn, IsHeadOf, IsReadTo, IsSameCapture, IsStepOf, LONGEST_CAPTURE, Standing, Stands, StandsFor, Step, Takes, after_step, at_start, bytes_announced, bytes_of_step, compacted_at, compactions_at, connections_after, count_at, entries_at, entries_of_step, first_after, head_of, head_text, no_bytes, origin_after, state_at, step_text}
 use Rattle.gts_event.proofs.LawLemmas.{after_all-append}
 use Rattle.gts_connection.proofs.LawLemmas.{entries_go_on, connections_go_on}
 use Rattle.gts_replay.proofs.LawLemmas.{begins, one_step}
 use Rattle.gts_replay.proofs.GoingLemmas.{stands_same, within_all}
 use Rattle.gts_replay.proofs.OriginLemmas.{AllWithin, wider, within_append, counts_more, origin_more}
+use Rattle.std.proofs.lemmas.Grind.{common_steps}
 
 -- the origin behind steps that were done
 abbrev pub origin_done : {O W : Type 0} → Standing O W → W → O → List Entry → List Step → O
@@ -43,19 +44,7 @@ pub record ReadsHead (observed : Type 0) (head : Head) (old new : Held) (before 
 
 pub runs_none : {O W : Type 0} (meanings : Standing O W) (kind : CaptureKind) (observed : Type 0) (bytes : List ℕ) (begun : W) (held : Held) (ds : List Decoding)
     → held ≡ at_start (length (meanings.directory begun).circuits) kind → Decode ds (no_bytes (meanings.directory begun)) → Runs meanings kind observed bytes begun [] held bytes ds begun
-runs_none meanings kind observed bytes begun held ds is decode =
-    let d : Directory = meanings.directory begun in
-    let P : Held → Type 0 = λ x. IsReadTo kind d bytes [] x (x.ahead ++ bytes) in
-    record {
-      circuits = ap (λ (x : Held). x.circuits) is;
-      of_kind = ap (λ (x : Held). x.kind) is;
-      taken = ap (λ (x : Held). x.feed) is;
-      are = tt;
-      read = λ t. subst P (sym is) (begins kind d bytes (at_start (length d.circuits) kind) refl);
-      decode = decode;
-      stands = λ o h start. record { first = length h; least = omega arith; each = tt; stands = stands_same meanings o (length h) h (h ++ []) begun (sym (append-nil h)) start.stands };
-      begins = λ o h. refl;
-    }
+runs_none meanings kind observed bytes begun held ds is decode = grind (arith, common_steps, begins, stands_same, append-nil)
 
 -- ---- heads
 
@@ -65,12 +54,7 @@ head_here kind d circuits h k e f w = subst (λ (x : CaptureKind). IsHeadIn (len
 -- a step that was done is that of its head
 step_whole : (head : Head) (step : Step) → IsStepOf head step → length (bytes_of_step step) ≡ bytes_announced head → head_of step ≡ head
 step_whole (FeedHead c n) step of size = ap head_of of.1 ∙ ap (FeedHead c) (ap (λ (s : Step). length (bytes_of_step s)) (sym of.1) ∙ size)
-step_whole (TakeHead c) step of size = of
-step_whole (ReopenHead c) step of size = of
-step_whole (DrainHead c) step of size = of
-step_whole RestartHead step of size = of
-step_whole CompactHead step of size = of
-step_whole EndHead step of size = of
+step_whole head step of size = of
 
 are_more : (kind : CaptureKind) (d : Directory) (steps : List Step) (step : Step) → AreStepsOf kind d steps → IsHeadOf kind d (head_of step) → AreStepsOf kind d (steps ++ step ∷ [])
 are_more kind d [] step are valid = (valid, tt)
@@ -82,23 +66,13 @@ are_more kind d (s ∷ steps) step are valid = (are.0, are_more kind d steps ste
 pub entries_more : {O W : Type 0} (meanings : Standing O W) (begun now : W) (o : O) (h : List Entry) (steps : List Step) (step : Step) → meanings.directory now ≡ meanings.directory begun
     → entries_at meanings begun o h (steps ++ step ∷ [])
     ≡ entries_at meanings begun o h steps ++ entries_of_step (state_at meanings now o (h ++ entries_at meanings begun o h steps)) (connections_after (meanings.directory begun) (no_bytes (meanings.directory begun)) steps) step
-entries_more meanings begun now o h steps step same =
-    let d : Directory = meanings.directory begun in
-    let bs : Connections = connections_after d (no_bytes d) steps in
-    let before : List Entry = entries_at meanings begun o h steps in
-    let state : state_at meanings now o (h ++ before) ≡ after_all d (state_at meanings begun o h) before =
-    ap (λ (e : Directory). after_all e (meanings.begin o) (h ++ before)) same ∙ after_all-append d (meanings.begin o) h before in
-    entries_go_on d (state_at meanings begun o h) steps (step ∷ []) ∙ ap (λ (xs : List Entry). before ++ xs) (append-nil (entries_of_step (after_all d (state_at meanings begun o h) before) bs step))
-    ∙ ap (λ (t : State). before ++ entries_of_step t bs step) (sym state)
+entries_more meanings begun now o h steps step same = grind (arith, common_steps, after_all-append, entries_go_on, append-nil)
 
 -- the switch stands for the entries of the steps so far
 pub stands_on : {O W : Type 0} (meanings : Standing O W) (begun now : W) (o : O) (h : List Entry) (steps : List Step) → meanings.directory now ≡ meanings.directory begun
     → meanings.begin (origin_done meanings begun o h steps) ≡ meanings.begin o → StandsFor meanings o (length h) h begun → (g : Gathered meanings begun o h steps now)
     → StandsFor meanings (origin_done meanings begun o h steps) g.first (h ++ entries_at meanings begun o h steps) now
-stands_on meanings begun now o h steps same begin start g = record {
-  start = subst (λ (s : State). IsStart (meanings.directory now) s) (sym begin) (subst (λ (d : Directory). IsStart d (meanings.begin o)) (sym same) start.start);
-  stands = g.stands;
-}
+stands_on meanings begun now o h steps same begin start g = grind (arith, common_steps)
 
 -- the entries that a step adds since the origin behind the steps so far
 pub added_by : {O W : Type 0} (meanings : Standing O W) (begun now : W) (o : O) (h : List Entry) (steps : List Step) (step : Step) → meanings.directory now ≡ meanings.directory begun
@@ -106,28 +80,16 @@ pub added_by : {O W : Type 0} (meanings : Standing O W) (begun now : W) (o : O) 
     → entries_at meanings begun o h (steps ++ step ∷ [])
     ≡ entries_at meanings begun o h steps
     ++ entries_of_step (state_at meanings now (origin_done meanings begun o h steps) (h ++ entries_at meanings begun o h steps)) (connections_after (meanings.directory begun) (no_bytes (meanings.directory begun)) steps) step
-added_by meanings begun now o h steps step same begin =
-    let d : Directory = meanings.directory begun in
-    let before : List Entry = entries_at meanings begun o h steps in
-    entries_more meanings begun now o h steps step same
-    ∙ ap (λ (t : State). before ++ entries_of_step (after_all (meanings.directory now) t (h ++ before)) (connections_after d (no_bytes d) steps) step) (sym begin)
+added_by meanings begun now o h steps step same begin = grind (arith, common_steps, entries_more)
 
 -- as many as before are certainly settled behind a step
 least_after : (first : ℕ) (x : List Entry) (step : Step) → first ≤ length x → first ≤ first_after first x step
-least_after first x (Feed c bytes) within = omega arith
-least_after first x (Take c) within = omega arith
-least_after first x (Reopen c) within = omega arith
-least_after first x (Drain c) within = omega arith
-least_after first x Restart within = within
 least_after first x Compact within = within
+least_after first x step within = omega arith
 
 count_within : (first : ℕ) (x : List Entry) (step : Step) → AllWithin (first_after first x step) (count_at (length x) step)
-count_within first x (Feed c bytes) = tt
-count_within first x (Take c) = tt
-count_within first x (Reopen c) = tt
-count_within first x (Drain c) = tt
-count_within first x Restart = tt
 count_within first x Compact = (omega arith, tt)
+count_within first x step = tt
 
 -- the entries of one step more
 pub gathered_more : {O W : Type 0} (meanings : Standing O W) (begun now later : W) (o : O) (h : List Entry) (steps : List Step) (step : Step) → meanings.directory now ≡ meanings.directory begun

@@ -1,11 +1,13 @@
 -- What a step took, and which entries it added.
 use Rattle.std.proofs.Common.{◌≡◌, ℕ, ◌+◌, ◌<◌, ◌≤◌, List, [], ◌∷◌, ◌++◌, length, get_or, set, map, Result, Ok, Err, refl, sym, ap, subst, ◌∙◌, arith, append_assoc, length-append}
 use Rattle.std.proofs.lemmas.List.{append-nil}
-use Rattle.gts_replay.specs.Cited.{BreaksOff, Compact, CompactHead, Connections, Decode, Decoding, DoesStep, Drain, DrainHead, EndsBehind, EndsInFeed, Entry, Feed, FeedHead, Feeds, Held, IsAnswered, IsCompacting, IsReopening, IsSameCapture, IsSettling, LONGEST_CAPTURE, OpenFault, Outcome, Remains, Reopen, ReopenHead, Restart, RestartHead, Restarted, Standing, Stands, StandsFor, StepFault, StopsBehind, StopsInFeed, SwitchFault, Take, TakeHead, Taken, Takes, TakesNoMore, all_done, fresh, held_in, no_bytes, readable_from, restart_of, settled, state_at, takes_of_drain}
+use Rattle.gts_replay.specs.Cited.{BreaksOff, Compact, CompactHead, Connections, Decode, Decoding, DoesStep, Drain, DrainHead, EndsBehind, EndsInFeed, Entry, Feed, FeedHead, Feeds, Head, Held, IsAnswered, IsCompacting, IsReopening, IsSameCapture, IsSettling, IsStepOf, LONGEST_CAPTURE, OpenFault, Outcome, Remains, Reopen, ReopenHead, Restart, RestartHead, Restarted, Standing, Stands, StandsFor, Step, StepFault, StopsBehind, StopsInFeed, SwitchFault, Take, TakeHead, Taken, Takes, TakesNoMore, all_done, bytes_of_step, entries_of_step, fresh, held_in, readable_from, restart_of, settled, state_at, takes_of_drain}
+use Rattle.gts_replay.specs.Ending.{HasTaken, Went}
 use Rattle.gts_event.specs.declared.fault.SwitchFault.TheVariants as switch
 use Rattle.gts_replay.specs.declared.fault.StepFault.TheVariants as step
 use Rattle.gts_replay.proofs.GoingLemmas.{stands_same, stands_settled, settles_all, settles_not, one_done, call_breaks}
 use Rattle.gts_replay.proofs.DecoderLemmas.{decode_at, decode_set, decode_reopened}
+use Rattle.std.proofs.lemmas.Grind.{common_steps}
 
 same_capture : (held : Held) → IsSameCapture held held
 same_capture held = record { circuits = refl; kind = refl }
@@ -18,13 +20,7 @@ takes_none observed held left = record { told = λ _. refl; feed = omega arith; 
 pub takes_more : (observed : Type 0) (bytes piece : List ℕ) (old now new : Held) (before left after : List ℕ) → Takes observed bytes old now before left
     → (observed → now.ahead ++ left ≡ piece ++ (new.ahead ++ after)) → new.feed + length piece ≡ now.feed → new.at ≡ now.at + length piece → new.at ≤ LONGEST_CAPTURE → IsSameCapture now new
     → Takes observed (bytes ++ piece) old new before after
-takes_more observed bytes piece old now new before left after taken told feed place inside same = record {
-  told = λ t. taken.told t ∙ ap (λ (xs : List ℕ). bytes ++ xs) (told t) ∙ sym (append_assoc bytes piece (new.ahead ++ after));
-  feed = omega (arith, feed, taken.feed, length-append bytes piece);
-  at = omega (arith, place, taken.at, length-append bytes piece);
-  within = λ w. inside;
-  same = record { circuits = same.circuits ∙ taken.same.circuits; kind = same.kind ∙ taken.same.kind };
-}
+takes_more observed bytes piece old now new before left after taken told feed place inside same = grind (arith, common_steps)
 
 -- the bytes end in the feed
 pub takes_end : (observed : Type 0) (bytes : List ℕ) (old now : Held) (before left : List ℕ) (at : ℕ) → Takes observed bytes old now before left → (observed → EndsInFeed now (readable_from now.at (now.ahead ++ left)) at)
@@ -41,11 +37,7 @@ takes_end observed bytes old now before left at taken ends = record {
 -- the source failed in the feed
 pub takes_stop : (observed : Type 0) (bytes : List ℕ) (old now new : Held) (before left after : List ℕ) → Takes observed bytes old now before left → (observed → StopsInFeed now new left after)
     → 0 < now.feed → StopsBehind observed bytes old before after
-takes_stop observed bytes old now new before left after taken stops some = record {
-  told = λ t. taken.told t ∙ ap (λ (xs : List ℕ). bytes ++ (xs ++ left)) (stops t).empty ∙ ap (λ (xs : List ℕ). bytes ++ xs) (sym (stops t).kept);
-  short = λ t. omega (arith, some, taken.feed);
-  within = λ w. let inside = taken.within w in omega (arith, inside, taken.at);
-}
+takes_stop observed bytes old now new before left after taken stops some = grind (arith, common_steps)
 
 -- no more was taken than these bytes and a piece
 pub takes_at_most : (observed : Type 0) (bytes piece : List ℕ) (old now new : Held) (before left after : List ℕ) → Takes observed bytes old now before left
@@ -65,6 +57,20 @@ nothing_taken observed held left = record { rest = held.ahead ++ left; told = λ
 -- ---- a step of each head
 
 module _ {O W : Type 0} (meanings : Standing O W) (station observed : Type 0) (held : Held) (left : List ℕ) (ds : List Decoding) where
+  -- a step that was not done
+  fails : (head : Head) (step : Step) (fault : StepFault) (old new : W) → IsStepOf head step → HasTaken observed (bytes_of_step step) (Err fault) held held left left
+      → ((bs : Connections) (o : O) (first : ℕ) (h : List Entry) → StandsFor meanings o first h old
+      → Went meanings station o first h (entries_of_step (state_at meanings old o h) bs step) step (Err fault) new)
+      → DoesStep meanings station observed head (Err fault) held held left left ds ds old new
+  fails head step fault old new of taken went = record {
+    step = step;
+    of_head = of;
+    taken = taken;
+    went = λ bs o first h decode start. went bs o first h start;
+    begins = λ o h. tt;
+    decode = λ bs e. tt;
+  }
+
   pub does_take : (c : ℕ) (old new : W) (result : Result Outcome SwitchFault) (answer : Outcome)
       → IsAnswered meanings (Taken c) result old new → result ≡ Ok answer → held.feed ≡ 0 → DoesStep meanings station observed (TakeHead c) (Ok tt) held held left left ds ds old new
   does_take c old new result answer called is none = record {
@@ -78,14 +84,8 @@ module _ {O W : Type 0} (meanings : Standing O W) (station observed : Type 0) (h
 
   pub fails_take : (c : ℕ) (old new : W) (result : Result Outcome SwitchFault) (fault : SwitchFault)
       → IsAnswered meanings (Taken c) result old new → result ≡ Err fault → DoesStep meanings station observed (TakeHead c) (Err (step.Switch fault)) held held left left ds ds old new
-  fails_take c old new result fault called is = record {
-    step = Take c;
-    of_head = refl;
-    taken = nothing_taken observed held left;
-    went = λ bs o first h decode start. call_breaks meanings (Taken c) result fault old new called is o first h start.stands;
-    decode = λ bs e. tt;
-    begins = λ o h. tt;
-  }
+  fails_take c old new result fault called is =
+      fails (TakeHead c) (Take c) (step.Switch fault) old new refl (nothing_taken observed held left) (λ bs o first h start. call_breaks meanings (Taken c) result fault old new called is o first h start.stands)
 
   pub does_drain : (c : ℕ) (old new : W)
       → ((o : O) (first : ℕ) (h : List Entry) → StandsFor meanings o first h old → Stands meanings o first (h ++ all_done (takes_of_drain (state_at meanings old o h) c)) new)
@@ -102,14 +102,7 @@ module _ {O W : Type 0} (meanings : Standing O W) (station observed : Type 0) (h
   pub fails_drain : (c : ℕ) (old new : W) (fault : SwitchFault)
       → ((o : O) (first : ℕ) (h : List Entry) → StandsFor meanings o first h old → BreaksOff meanings (λ _. o) first h (all_done (takes_of_drain (state_at meanings old o h) c)) fault new)
       → DoesStep meanings station observed (DrainHead c) (Err (step.Switch fault)) held held left left ds ds old new
-  fails_drain c old new fault goes = record {
-    step = Drain c;
-    of_head = refl;
-    taken = nothing_taken observed held left;
-    went = λ bs o first h decode start. goes o first h start;
-    decode = λ bs e. tt;
-    begins = λ o h. tt;
-  }
+  fails_drain c old new fault goes = fails (DrainHead c) (Drain c) (step.Switch fault) old new refl (nothing_taken observed held left) (λ bs. goes)
 
   pub does_reopen : (c : ℕ) (next : Decoding) (old : W)
       → next ≡ fresh → held.feed ≡ 0 → DoesStep meanings station observed (ReopenHead c) (Ok tt) held held left left ds (set ds c next) old old
@@ -125,26 +118,15 @@ module _ {O W : Type 0} (meanings : Standing O W) (station observed : Type 0) (h
   -- what was gathered was to be settled before the journal is opened again
   pub unsettled_restart : (old new : W) (result : Result (Unit {0}) SwitchFault) (fault : SwitchFault)
       → IsSettling meanings result old new → result ≡ Err fault → DoesStep meanings station observed RestartHead (Err (step.Switch fault)) held held left left ds ds old new
-  unsettled_restart old new result fault settling is = record {
-    step = Restart;
-    of_head = refl;
-    taken = nothing_taken observed held left;
-    went = λ bs o first h decode start.
-        settles_not meanings o first h (Restarted ∷ []) old new fault start.stands (subst (λ (r : Result (Unit {0}) SwitchFault). IsSettling meanings r old new) is settling);
-    decode = λ bs e. tt;
-    begins = λ o h. tt;
-  }
+  unsettled_restart old new result fault settling is =
+      fails RestartHead Restart (step.Switch fault) old new refl (nothing_taken observed held left)
+      (λ bs o first h start. settles_not meanings o first h (Restarted ∷ []) old new fault start.stands (subst (λ (r : Result (Unit {0}) SwitchFault). IsSettling meanings r old new) is settling))
 
   pub unsettled_compact : (old new : W) (result : Result (Unit {0}) SwitchFault) (fault : SwitchFault)
       → IsSettling meanings result old new → result ≡ Err fault → DoesStep meanings station observed CompactHead (Err (step.Switch fault)) held held left left ds ds old new
-  unsettled_compact old new result fault settling is = record {
-    step = Compact;
-    of_head = refl;
-    taken = nothing_taken observed held left;
-    went = λ bs o first h decode start. settles_not meanings o first h [] old new fault start.stands (subst (λ (r : Result (Unit {0}) SwitchFault). IsSettling meanings r old new) is settling);
-    decode = λ bs e. tt;
-    begins = λ o h. tt;
-  }
+  unsettled_compact old new result fault settling is =
+      fails CompactHead Compact (step.Switch fault) old new refl (nothing_taken observed held left)
+      (λ bs o first h start. settles_not meanings o first h [] old new fault start.stands (subst (λ (r : Result (Unit {0}) SwitchFault). IsSettling meanings r old new) is settling))
 
   -- behind what was settled
   module _ (old mid new : W) (answer : Result (Unit {0}) SwitchFault) (v : Unit {0}) (settling : IsSettling meanings answer old mid) (all : answer ≡ Ok v) where
@@ -154,70 +136,32 @@ module _ {O W : Type 0} (meanings : Standing O W) (station observed : Type 0) (h
     pub does_restart : (ds_now : List Decoding) (result : Result (Unit {0}) OpenFault) (u : Unit {0})
         → IsReopening meanings station result mid new → result ≡ Ok u → ds_now ≡ map (λ _. fresh) ds → length ds ≡ length (meanings.directory old).circuits → held.feed ≡ 0
         → DoesStep meanings station observed RestartHead (Ok tt) held held left left ds ds_now old new
-    does_restart ds_now result u reopening is anew each none = record {
-      step = Restart;
-      of_head = refl;
-      taken = (takes_none observed held left, none);
-      went = λ bs o first h decode start.
-          stands_settled meanings o (length h) (h ++ Restarted ∷ []) new (omega (arith, length-append h (Restarted ∷ [])))
-          (subst (λ (r : Result (Unit {0}) OpenFault). settled meanings o (h ++ restart_of r) new) is (reopening.adds o h (rests o first h start.stands)));
-      decode = λ bs e. subst (λ (xs : List Decoding). Decode xs (no_bytes (meanings.directory old))) (sym anew) (decode_reopened ds (meanings.directory old) each);
-      begins = λ o h. refl;
-    }
+    does_restart ds_now result u reopening is anew each none = grind (arith, common_steps, takes_none, stands_settled, rests, decode_reopened)
 
     pub fails_restart : (result : Result (Unit {0}) OpenFault) (fault : OpenFault)
         → IsReopening meanings station result mid new → result ≡ Err fault → DoesStep meanings station observed RestartHead (Err (step.Reopen fault)) held held left left ds ds old new
-    fails_restart result fault reopening is = record {
-      step = Restart;
-      of_head = refl;
-      taken = nothing_taken observed held left;
-      went = λ bs o first h decode start. (
-        refl,
-        record {
-          front = [];
-          behind = [];
-          parts = refl;
-          stands = subst (λ (r : Result (Unit {0}) OpenFault). settled meanings o (h ++ restart_of r) new) is (reopening.adds o h (rests o first h start.stands));
-          fault_is = λ t. reopening.fault t o h (rests o first h start.stands) fault is;
-        },
-      );
-      decode = λ bs e. tt;
-      begins = λ o h. tt;
-    }
-
-    pub does_compact : (result : Result (Unit {0}) SwitchFault) (u : Unit {0})
-        → IsCompacting meanings result mid new → result ≡ Ok u → held.feed ≡ 0 → DoesStep meanings station observed CompactHead (Ok tt) held held left left ds ds old new
-    does_compact result u compacting is none = record {
-      step = Compact;
-      of_head = refl;
-      taken = (takes_none observed held left, none);
-      went = λ bs o first h decode start.
-          stands_same meanings (meanings.compacts o h) (length h) h (h ++ []) new (sym (append-nil h))
-          (stands_settled meanings (meanings.compacts o h) (length h) h new (omega arith) (compacting.done o h (rests o first h start.stands) is));
-      decode = λ bs e. e;
-      begins = λ o h. compacting.begins o h;
-    }
+    fails_restart result fault reopening is =
+        fails RestartHead Restart (step.Reopen fault) old new refl (nothing_taken observed held left) (λ bs o first h start. (
+          refl,
+          record {
+            front = [];
+            behind = [];
+            parts = refl;
+            stands = subst (λ (r : Result (Unit {0}) OpenFault). settled meanings o (h ++ restart_of r) new) is (reopening.adds o h (rests o first h start.stands));
+            fault_is = λ t. reopening.fault t o h (rests o first h start.stands) fault is;
+          },
+        ))
 
     pub fails_compact : (result : Result (Unit {0}) SwitchFault) (fault : SwitchFault)
         → IsCompacting meanings result mid new → result ≡ Err fault → DoesStep meanings station observed CompactHead (Err (step.Compaction fault)) held held left left ds ds old new
-    fails_compact result fault compacting is = record {
-      step = Compact;
-      of_head = refl;
-      taken = nothing_taken observed held left;
-      went = λ bs o first h decode start.
-          let stands : settled meanings o h mid = rests o first h start.stands in
-          record { at_step = refl; remains = remains o h stands fault is; cause = compacting.caused o h stands fault is };
-      decode = λ bs e. tt;
-      begins = λ o h. tt;
-    }
+    fails_compact result fault compacting is =
+        fails CompactHead Compact (step.Compaction fault) old new refl (nothing_taken observed held left) (λ bs o first h start.
+        let stands : settled meanings o h mid = rests o first h start.stands in
+        record { at_step = refl; remains = remains o h stands fault is; cause = compacting.caused o h stands fault is })
       where
         remains : (o : O) (h : List Entry) → settled meanings o h mid → (f : SwitchFault) → result ≡ Err f → Remains meanings o h f new
         remains o h stands switch.DiskFault e = compacting.left o h stands e
-        remains o h stands switch.SayFault e = compacting.idle o h stands switch.SayFault e tt
-        remains o h stands (switch.Full used need limit) e = compacting.idle o h stands (switch.Full used need limit) e tt
-        remains o h stands (switch.Stopped by) e = compacting.idle o h stands (switch.Stopped by) e tt
-        remains o h stands switch.Spent e = compacting.idle o h stands switch.Spent e tt
-        remains o h stands switch.NoMemory e = compacting.idle o h stands switch.NoMemory e tt
+        remains o h stands f e = compacting.idle o h stands f e tt
 
 pub does_feed : {O W : Type 0} (meanings : Standing O W) (station observed : Type 0) (c n : ℕ) (result : Result (Unit {0}) StepFault) (held held_now : Held) (left left_now : List ℕ)
     (ds : List Decoding) (x next : Decoding) (old new : W) → c < length ds → Feeds meanings observed c result held held_now left left_now (get_or ds c x) next old new

@@ -1,6 +1,6 @@
 -- The entries of a capture's steps were done, or are openings: none is in doubt, and none unsaid.
 use Rattle.std.proofs.Common.{◌≡◌, List, [], ◌∷◌, ◌++◌, drop, ap, subst}
-use Rattle.gts_replay.specs.Cited.{Compact, Connections, Directory, Disk, DiskFault, Done, Doubt, Drain, Entry, Event, Feed, Full, IsCause, IsCompactCause, NoMemory, Outcome, Reopen, Restart, Restarted, Say, SayFault, Spent, State, Step, Stopped, StoppedBefore, SwitchFault, Take, Unsaid, after_all, after_step, all_done, entries_from, entries_of_step}
+use Rattle.gts_replay.specs.Cited.{Compact, Connections, Directory, Disk, Done, Doubt, Drain, Entry, Event, Feed, IsCause, IsCompactCause, Outcome, Reopen, Restart, Restarted, Say, State, Step, Stopped, StoppedBefore, SwitchFault, Take, Unsaid, after_all, after_step, all_done, entries_from, entries_of_step}
 
 -- an entry was done, or is an opening
 abbrev pub Sure : Entry → Type 0
@@ -53,17 +53,9 @@ unsure_before bad none (v ∷ h) front (z ∷ a) b sure e =
 pub stopped_before : (IsFull : SwitchFault → Type 0) (h front : List Entry) (o : Outcome) (fault : SwitchFault) → AllSure front → IsCause IsFull (h ++ front) o fault → StoppedBefore h fault
 stopped_before IsFull h front o (Stopped Disk) sure cause = let w = unsure_before (Doubt cause.1) (λ none. none) h front cause.0 cause.2 sure cause.3 in (w.0, cause.1, w.1, w.2)
 stopped_before IsFull h front o (Stopped Say) sure cause = let w = unsure_before (Unsaid cause.1) (λ none. none) h front cause.0 cause.2 sure cause.3 in (w.0, cause.1, w.1, w.2)
-stopped_before IsFull h front o DiskFault sure cause = tt
-stopped_before IsFull h front o SayFault sure cause = tt
-stopped_before IsFull h front o (Full used need limit) sure cause = tt
-stopped_before IsFull h front o Spent sure cause = tt
-stopped_before IsFull h front o NoMemory sure cause = tt
+stopped_before IsFull h front o fault sure cause = tt
 
 pub uncompacted_before : (IsFull : SwitchFault → Type 0) (h front : List Entry) (fault : SwitchFault) → AllSure front → IsCompactCause IsFull (h ++ front) fault → StoppedBefore h fault
 uncompacted_before IsFull h front (Stopped Disk) sure cause = let w = unsure_before (Doubt cause.1) (λ none. none) h front cause.0 cause.2 sure cause.3 in (w.0, cause.1, w.1, w.2)
 uncompacted_before IsFull h front (Stopped Say) sure cause = let w = unsure_before (Unsaid cause.1) (λ none. none) h front cause.0 cause.2 sure cause.3 in (w.0, cause.1, w.1, w.2)
-uncompacted_before IsFull h front DiskFault sure cause = tt
-uncompacted_before IsFull h front SayFault sure cause = tt
-uncompacted_before IsFull h front (Full used need limit) sure cause = tt
-uncompacted_before IsFull h front Spent sure cause = tt
-uncompacted_before IsFull h front NoMemory sure cause = tt
+uncompacted_before IsFull h front fault sure cause = tt

@@ -13,6 +13,7 @@ mod head;
 mod head_cursor;
 mod progress;
 mod replaying;
+mod room;
 mod steps;
 
 pub use capture_fault::CaptureFault;

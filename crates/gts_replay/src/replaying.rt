@@ -2,20 +2,17 @@ ghost use Rattle.std.specs.Prelude.{◌≡◌, ◌<◌, ◌≤◌, length};
 ghost use Rattle.gts_replay.specs.Cited.{CountsRun, CountsSettling, CountsStep, Decode, DoesStep, EndsRun, EndsUnsettled, IsHeadIn, SettlesBehind, at_start, bytes_announced, no_bytes};
 ghost use Rattle.gts_replay.specs.Heads.{head_of};
 
-use crate::decoders::{new_decoders, reopen_all};
+use crate::decoders::reopen_all;
 use crate::draining::drain;
 use crate::end::{ReplayEnd, end_after};
 use crate::fault::StepFault;
 use crate::feeding::feed;
+use crate::room::Room;
 use crate::{Head, Steps};
 use gts_calls::Switch;
 use gts_connection::CaptureKind;
-use gts_frame::{Decoder, FrameBuf};
 use gts_traits::Source;
 use std::alloc::Global;
-
-/// How many bytes of a feed are taken at once.
-const PIECE: usize = 4_096;
 
 /// Runs a capture of this kind through a switch, up to its end or the first fault: bytes that come are heard frame by frame,
 /// each circuit over a connection of its own; takes, drains, restarts and compactions are the switch's. What feeds, takes and
@@ -34,23 +31,11 @@ pub fn replay<W: Switch, S: Source>(
         capture.old capture.new }
 {
     let circuits = switch.circuits();
-    let Ok(mut decoders) = new_decoders(alloc, circuits) else {
+    let Ok(mut room) = Room::new(alloc, circuits) else {
         return ReplayEnd::NoMemory;
     };
-    let Ok(mut out) = FrameBuf::new(alloc) else {
-        return ReplayEnd::NoMemory;
-    };
-    let mut piece = [0; PIECE];
     let mut steps = Steps::new(circuits, kind);
-    let end = run(
-        alloc,
-        switch,
-        capture,
-        &mut steps,
-        &mut decoders,
-        &mut out,
-        &mut piece,
-    );
+    let end = run(alloc, switch, capture, &mut steps, &mut room);
     settle_behind(switch, end)
 }
 
@@ -77,15 +62,12 @@ fn run<W: Switch, S: Source>(
     switch: &mut W,
     capture: &mut S,
     steps: &mut Steps,
-    decoders: &mut [Decoder],
-    out: &mut FrameBuf,
-    piece: &mut [u8],
+    room: &mut Room,
 ) -> ReplayEnd
     requires begins { steps.old
         ≡ at_start (length (W.meanings.directory switch.old).circuits) steps.old.kind }
     requires few { length (W.meanings.directory switch.old).circuits ≤ 100 }
-    requires decode { Decode decoders.old (no_bytes (W.meanings.directory switch.old)) }
-    requires piece { 0 < length piece.old }
+    requires decode { Decode room.old.decoders.items (no_bytes (W.meanings.directory switch.old)) }
     ensures ends { EndsUnsettled W.Switch S.Source steps.old.kind result switch.old switch.new
         capture.old capture.new }
     ensures directory { W.meanings.directory switch.new ≡ W.meanings.directory switch.old }
@@ -98,7 +80,7 @@ fn run<W: Switch, S: Source>(
             Ok(head) => head,
             Err(fault) => return end_after(StepFault::Capture(fault)),
         };
-        if let Err(fault) = do_step(alloc, switch, capture, steps, decoders, out, piece, head) {
+        if let Err(fault) = do_step(alloc, switch, capture, steps, room, head) {
             return end_after(fault);
         }
     }
@@ -112,40 +94,38 @@ fn do_step<W: Switch, S: Source>(
     switch: &mut W,
     capture: &mut S,
     steps: &mut Steps,
-    decoders: &mut [Decoder],
-    out: &mut FrameBuf,
-    piece: &mut [u8],
+    room: &mut Room,
     head: Head,
 ) -> Result<(), StepFault>
     requires valid { let d = W.meanings.directory switch.old in
         IsHeadIn (length d.circuits) steps.old.kind (head_of head) }
     requires some { head ≡ Head.End → ⊥ }
     requires feed { steps.old.feed ≡ bytes_announced (head_of head) }
-    requires decoders { length decoders.old ≡ length (W.meanings.directory switch.old).circuits }
-    requires piece { 0 < length piece.old }
+    requires decoders { length room.old.decoders.items
+        ≡ length (W.meanings.directory switch.old).circuits }
     ensures does { DoesStep W.meanings W.observed S.observed
-        (head_of head) result steps.old steps.new
-        (S.left capture.old) (S.left capture.new) decoders.old decoders.new switch.old switch.new }
+        (head_of head) result steps.old steps.new (S.left capture.old) (S.left capture.new)
+        room.old.decoders.items room.new.decoders.items switch.old switch.new }
     ensures directory { W.meanings.directory switch.new ≡ W.meanings.directory switch.old }
     ensures cause { CountsStep W.Switch S.Source result switch.old switch.new
         capture.old capture.new }
 {
     match head {
         Head::Feed { c, .. } => {
-            let decoder = &mut decoders[c as usize];
-            return feed(alloc, switch, c, decoder, steps, capture, piece);
+            let decoder = &mut room.decoders[c as usize];
+            return feed(alloc, switch, c, decoder, steps, capture, &mut room.piece);
         }
         Head::Take { c } => {
-            if let Err(fault) = switch.take(c, out) {
+            if let Err(fault) = switch.take(c, &mut room.frame) {
                 return Err(StepFault::Switch(fault));
             }
         }
         Head::Drain { c } => {
-            if let Err(fault) = drain(switch, c, out) {
+            if let Err(fault) = drain(switch, c, &mut room.frame) {
                 return Err(StepFault::Switch(fault));
             }
         }
-        Head::Reopen { c } => decoders[c as usize].reopen(),
+        Head::Reopen { c } => room.decoders[c as usize].reopen(),
         Head::Restart => {
             if let Err(fault) = switch.settle() {
                 return Err(StepFault::Switch(fault));
@@ -153,7 +133,7 @@ fn do_step<W: Switch, S: Source>(
             if let Err(fault) = switch.restart(alloc) {
                 return Err(StepFault::Reopen(fault));
             }
-            reopen_all(decoders);
+            reopen_all(&mut room.decoders);
         }
         Head::Compact => {
             if let Err(fault) = switch.settle() {

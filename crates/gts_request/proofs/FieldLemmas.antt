@@ -1,6 +1,6 @@
 -- The fields of a line as they are spelled, and as they are read.
 use Rattle.std.proofs.Common.{◌≡◌, inl, inr, ℕ, suc, ◌+◌, ◌<◌, ◌≤◌, ◌^◌, ◌==◌, Bool, true, false, nat_eq, List, [], ◌∷◌, ◌++◌, length, take, drop, Result, Ok, Err, refl, sym, ap, subst, ◌∙◌, append_assoc, arith, if◌then◌else◌, ◌||◌, take_while}
-use Rattle.gts_request.specs.Cited.{Ahd, AskedHeading, Asker, Cccc, EndsBefore, Entry, HeadingFields, IsCount, IsEntry, Item, LacksEntry, LacksNumber, Latest, Line, LineEnd, LineStart, MessageField, Number, Numbers, One, Range, RequestField, Sqn, after_word, asked, bare_heading_at, count_at, dec, digits_value, entry_text, heading_item, is_ascii_digit, item_at, list_all, number_at, numbers_at, run_at, starts_with}
+use Rattle.gts_request.specs.Cited.{Ahd, AskedHeading, Asker, Cccc, EndsBefore, Entry, HeadingFields, IsCount, IsEntry, Item, LacksEntry, Latest, Line, LineEnd, LineStart, MessageField, Number, Numbers, One, Range, RequestField, Sqn, after_word, asked, bare_heading_at, count_at, dec, digits_value, entry_text, heading_item, is_ascii_digit, item_at, list_all, number_at, numbers_at, run_at, starts_with}
 use Rattle.gts_request.specs.Request.{◌>>=◌}
 use Rattle.std.proofs.lemmas.Bool.{eqb-true, eq-eqb, false≢true, and_parts}
 use Rattle.std.proofs.lemmas.Int.Digits.{digits_value-lt}
@@ -9,6 +9,7 @@ use Rattle.std.proofs.lemmas.List.Sums.{take_while-cons}
 use Rattle.gts_alphabet.proofs.LawLemmas.{length-dec, digits_value-dec, AllDigits-dec, test_from_AllDigits, AllDigits-from_test, dec-digits_value}
 use Rattle.gts_heading.proofs.LawLemmas.{word_takes, bare_is_spelled}
 use Rattle.gts_request.proofs.RequestLemmas.{last_at}
+use Rattle.std.proofs.lemmas.Grind.{common_steps}
 
 -- ---- words
 
@@ -33,15 +34,7 @@ pub record IsRun (k : ℕ) (bytes : List ℕ) : Type 0 where
 
 run_is : (bytes : List ℕ) → IsRun (run_at bytes) bytes
 run_is [] = record { long = omega arith; digits = refl; ends = refl }
-run_is (x ∷ xs) = go (run_is xs) (is_ascii_digit x) refl
-  where
-    go : IsRun (run_at xs) xs → (t : Bool) → is_ascii_digit x ≡ t → IsRun (run_at (x ∷ xs)) (x ∷ xs)
-    go r true is =
-        let P : ℕ → Type 0 = λ k. IsRun k (x ∷ xs) in
-        subst P (sym (run_cons x xs true is)) (record { long = omega (arith, r.long); digits = rw is r.digits; ends = r.ends })
-    go r false is =
-        let P : ℕ → Type 0 = λ k. IsRun k (x ∷ xs) in
-        subst P (sym (run_cons x xs false is)) (record { long = omega arith; digits = refl; ends = run_cons x xs false is })
+run_is (x ∷ xs) = grind (arith, common_steps, run_cons, run_is xs)
 
 run_on : (ds rest : List ℕ) → list_all is_ascii_digit ds ≡ true → run_at (ds ++ rest) ≡ length ds + run_at rest
 run_on [] rest all = omega arith
@@ -76,21 +69,10 @@ number_view w bytes = go (run_at bytes == w) refl
     go false is = (refl, λ e. absurd (false≢true (sym is ∙ eq-eqb (run_at bytes) w e)))
 
 pub number_again : (w n : ℕ) (rest : List ℕ) → n < 10 ^ w → run_at rest ≡ 0 → number_at w (dec w n ++ rest) ≡ Ok (n, rest)
-number_again w n rest small ends =
-    let ds : List ℕ = dec w n in
-    let count : (run_at (ds ++ rest) == w) ≡ true = eq-eqb (run_at (ds ++ rest)) w (run_of_dec w n rest ends) in
-    let front : take w (ds ++ rest) ≡ ds = take_at ds rest w (length-dec w n) in
-    let back : drop w (ds ++ rest) ≡ rest = drop_at ds rest w (length-dec w n) in
-    ap (λ (t : Bool). if t then ok_of (digits_value 10 (take w (ds ++ rest))) (drop w (ds ++ rest)) else Err Number) count
-    ∙ ap (λ (l : List ℕ). ok_of (digits_value 10 l) (drop w (ds ++ rest))) front
-    ∙ ap (λ (l : List ℕ). ok_of (digits_value 10 ds) l) back ∙ ap (λ (v : ℕ). ok_of v rest) (digits_value-dec w n small)
+number_again w n rest small ends = grind (arith, common_steps, eq-eqb, run_of_dec, take_at, length-dec, drop_at, digits_value-dec)
 
 pub no_number : (w : ℕ) (bytes : List ℕ) → (run_at bytes ≡ w → ⊥) → number_at w bytes ≡ Err Number
-no_number w bytes none = go (run_at bytes == w) refl
-  where
-    go : (t : Bool) → (run_at bytes == w) ≡ t → (if t then ok_of (digits_value 10 (take w bytes)) (drop w bytes) else Err Number) ≡ Err Number
-    go true is = absurd (none (eqb-true (run_at bytes) w is))
-    go false is = refl
+no_number w bytes none = grind (arith, common_steps, eqb-true)
 
 -- ---- the count of a number's digits
 
@@ -112,26 +94,10 @@ CountView bytes (Ok w) = IsCount w × (run_at bytes ≡ w)
 CountView bytes (Err field) = (field ≡ Number) × (IsCount (run_at bytes) → ⊥)
 
 pub count_view : (bytes : List ℕ) → CountView bytes (count_at bytes)
-count_view bytes = go (run_at bytes == 3) (run_at bytes == 5) refl refl
-  where
-    k : ℕ
-    k = run_at bytes
-
-    neither : (k == 3) ≡ false → (k == 5) ≡ false → IsCount k → ⊥
-    neither three five (inl e) = absurd (false≢true (sym three ∙ eq-eqb k 3 e))
-    neither three five (inr e) = absurd (false≢true (sym five ∙ eq-eqb k 5 e))
-
-    go : (three five : Bool) → (k == 3) ≡ three → (k == 5) ≡ five → CountView bytes (if three || five then Ok k else Err Number)
-    go true five is three = (inl (eqb-true k 3 is), refl)
-    go false true is three = (inr (eqb-true k 5 three), refl)
-    go false false is three = (refl, neither is three)
+count_view bytes = grind (arith, common_steps, eq-eqb, eqb-true)
 
 pub no_count : (bytes : List ℕ) → (IsCount (run_at bytes) → ⊥) → count_at bytes ≡ Err Number
-no_count bytes none = go (count_at bytes) (count_view bytes)
-  where
-    go : (r : Result ℕ RequestField) → CountView bytes r → r ≡ Err Number
-    go (Ok w) v = absurd (none (let P : ℕ → Type 0 = λ k. IsCount k in subst P (sym v.1) v.0))
-    go (Err field) v = ap (λ (f : RequestField). let r : Result ℕ RequestField = Err f in r) v.0
+no_count bytes none = grind (arith, common_steps, count_view)
 
 -- ---- numbers
 
@@ -198,20 +164,15 @@ item_view Ahd bytes = heading_view bytes
 -- ---- and again
 
 one_again : (w n : ℕ) (rest : List ℕ) → IsCount w → n < 10 ^ w → EndsBefore rest (One w n) → numbers_at (dec w n ++ rest) ≡ Ok (Numbers w n n, rest)
-one_again w n rest is small ends =
-    rw (count_again w (dec w n ++ rest) is (run_of_dec w n rest ends.0))
-    (rw (number_again w n rest small ends.0, ends.1) refl)
+one_again w n rest is small ends = grind (arith, common_steps, count_again, run_of_dec, number_again)
 
 range_again : (w first last : ℕ) (rest : List ℕ) → IsCount w → first < 10 ^ w → last < 10 ^ w → run_at rest ≡ 0
     → numbers_at (dec w first ++ 45 ∷ (dec w last ++ rest)) ≡ Ok (Numbers w first last, rest)
-range_again w first last rest is small fits ends =
-    rw (count_again w (dec w first ++ 45 ∷ (dec w last ++ rest)) is (run_of_dec w first (45 ∷ (dec w last ++ rest)) refl))
-    (rw (number_again w first (45 ∷ (dec w last ++ rest)) small refl) (rw (number_again w last rest fits ends) refl))
+range_again w first last rest is small fits ends = grind (arith, common_steps, count_again, run_of_dec, number_again)
 
 pub item_again : (kind : Line) (entry : Entry) (rest : List ℕ) → IsEntry kind entry → EndsBefore rest entry → item_at kind (entry_text entry ++ rest) ≡ Ok (asked entry, rest)
 item_again Sqn (One w n) rest is ends = one_again w n rest is.0 is.1 ends
-item_again Sqn (Range w first last) rest is ends =
-    ap numbers_at (append_assoc (dec w first) (45 ∷ dec w last) rest) ∙ range_again w first last rest is.0 is.1 is.2 ends
+item_again Sqn (Range w first last) rest is ends = grind (arith, common_steps, range_again)
 item_again Sqn (Latest heading) rest is ends = absurd is
 item_again Ahd (One w n) rest is ends = absurd is
 item_again Ahd (Range w first last) rest is ends = absurd is
@@ -222,16 +183,6 @@ item_lacks kind bytes Asker lacks = absurd lacks
 item_lacks kind bytes LineStart lacks = absurd lacks
 item_lacks kind bytes LineEnd lacks = absurd lacks
 item_lacks Ahd bytes Number lacks = absurd (let e : Ahd ≡ Sqn = lacks.0 in cc)
-item_lacks Sqn bytes Number lacks = go lacks.1
-  where
-    go : LacksNumber bytes → numbers_at bytes ≡ Err Number
-    go (inl none) = rw (no_count bytes none) refl
-    go (inr (w, n, rest, is, small, spelled, other)) =
-        ap numbers_at spelled
-        ∙ rw (count_again w (dec w n ++ 45 ∷ rest) is (run_of_dec w n (45 ∷ rest) refl)) (rw (number_again w n (45 ∷ rest) small refl) (rw (no_number w rest other) refl))
+item_lacks Sqn bytes Number lacks = grind (arith, common_steps, no_count, count_again, run_of_dec, number_again, no_number)
 item_lacks Sqn bytes AskedHeading lacks = absurd (let e : Sqn ≡ Ahd = lacks.0 in cc)
-item_lacks Ahd bytes AskedHeading lacks = go (bare_heading_at bytes) refl
-  where
-    go : (r : Result (HeadingFields × List ℕ) MessageField) → bare_heading_at bytes ≡ r → heading_item r ≡ Err AskedHeading
-    go (Ok found) is = absurd (lacks.1 found is)
-    go (Err field) is = refl
+item_lacks Ahd bytes AskedHeading lacks = grind (arith, common_steps)

@@ -1,12 +1,13 @@
 -- A request's text by its grammar, and as it is read from left to right.
-use Rattle.std.proofs.Common.{◌≡◌, ◌⊎◌, ◌↔◌, inl, inr, ℕ, zero, suc, ◌<◌, ◌&&◌, Bool, true, false, nat_eq, nat_le, List, [], ◌∷◌, ◌++◌, length, take, drop, map, Option, Some, None, Result, Ok, Err, refl, sym, ap, subst, ◌∙◌, append_assoc, arith, if◌then◌else◌}
-use Rattle.gts_request.specs.Cited.{Ahd, AllByRecursion, AskedLine, Asker, Cccc, EndsBefore, Entry, IsAsker, IsEntry, IsLine, IsRequestFor, Item, Lacks, LacksEnd, LacksEntry, LacksLine, Latest, Line, LineEnd, LineStart, MessageField, One, Place, Range, RequestField, Sqn, StopsAt, StopsAtLine, StopsInLine, are_capitals, asked, behind_asker, behind_item, behind_line, bytes_from, capitals_at, entry_text, item_at, items_at, items_from, line_items, line_start, line_start_at, line_text, lines_items, lines_text, request_at, slashed, starts_with, step_at}
+use Rattle.std.proofs.Common.{◌≡◌, ◌⊎◌, ◌↔◌, inl, inr, ℕ, zero, suc, ◌<◌, ◌&&◌, Bool, true, nat_le, List, [], ◌∷◌, ◌++◌, length, take, drop, map, Option, Some, None, Result, Ok, Err, refl, sym, ap, subst, ◌∙◌, append_assoc, arith, if◌then◌else◌}
+use Rattle.gts_request.specs.Cited.{Ahd, AllByRecursion, AskedLine, Asker, Cccc, EndsBefore, Entry, IsAsker, IsEntry, IsLine, IsRequestFor, Item, Lacks, LacksEnd, LacksEntry, LacksLine, Latest, Line, LineEnd, LineStart, MessageField, One, Place, Range, RequestField, Sqn, StopsAt, StopsAtLine, StopsInLine, are_capitals, asked, behind_asker, behind_item, behind_line, bytes_from, capitals_at, entry_text, item_at, items_at, items_from, line_items, line_start, line_start_at, line_text, lines_items, lines_text, request_at, slashed, step_at}
 use Rattle.gts_request.specs.Request.{◌>>=◌}
-use Rattle.std.proofs.lemmas.Bool.{le-leb, leb-true, false≢true}
+use Rattle.std.proofs.lemmas.Bool.{le-leb, leb-true}
 use Rattle.std.proofs.lemmas.List.{append-nil, length-append, length-take-le, take_at, drop_at, take-append-drop}
 use Rattle.gts_heading.proofs.LawLemmas.{bare_again}
 use Rattle.gts_request.proofs.FieldLemmas.{begins, ItemView, item_view, item_again, item_lacks}
 use Rattle.gts_request.proofs.RequestLemmas.{items_after, fault_at, fault_of_first}
+use Rattle.std.proofs.lemmas.Grind.{common_steps}
 
 -- ---- what is behind an item
 
@@ -16,13 +17,7 @@ StartView bytes (Ok place) = bytes ≡ line_start place.0 ++ place.1
 StartView bytes (Err field) = (field ≡ LineStart) × LacksLine bytes
 
 start_view : (bytes : List ℕ) → StartView bytes (line_start_at bytes)
-start_view bytes = go (starts_with nat_eq bytes (line_start Sqn)) (starts_with nat_eq bytes (line_start Ahd)) refl refl
-  where
-    go : (sqn ahd : Bool) → starts_with nat_eq bytes (line_start Sqn) ≡ sqn → starts_with nat_eq bytes (line_start Ahd) ≡ ahd
-        → StartView bytes (if sqn then Ok (Sqn, drop 7 bytes) else if ahd then Ok (Ahd, drop 7 bytes) else Err LineStart)
-    go true ahd s a = begins (line_start Sqn) bytes s
-    go false true s a = begins (line_start Ahd) bytes a
-    go false false s a = (refl, (s, a))
+start_view bytes = grind (arith, common_steps, begins)
 
 start_again : (kind : Line) (rest : List ℕ) → line_start_at (line_start kind ++ rest) ≡ Ok (kind, rest)
 start_again Sqn rest = refl
@@ -48,25 +43,10 @@ nonempty x xs e = absurd (cc)
 
 equals_view : (rest : List ℕ) → AfterEquals rest (behind_line rest)
 equals_view [] = refl
-equals_view (x ∷ xs) = go (line_start_at (x ∷ xs)) (start_view (x ∷ xs))
-  where
-    go : (r : Result Place RequestField) → StartView (x ∷ xs) r → AfterEquals (x ∷ xs) (r >>= λ place. Ok (Some place))
-    go (Ok place) v = v
-    go (Err field) v = (v.0, nonempty x xs, v.1)
+equals_view (x ∷ xs) = grind (arith, common_steps, start_view, nonempty)
 
 end_view : (kind : Line) (bytes : List ℕ) → EndView kind bytes (behind_item kind bytes)
-end_view kind bytes = go (starts_with nat_eq bytes (47 ∷ [])) (starts_with nat_eq bytes (61 ∷ [])) refl refl
-  where
-    more : bytes ≡ 61 ∷ drop 1 bytes → (r : Result (Option Place) RequestField) → AfterEquals (drop 1 bytes) r → EndView kind bytes r
-    more is (Ok None) v = is ∙ ap (λ (l : List ℕ). 61 ∷ l) v
-    more is (Ok (Some place)) v = inr (is ∙ ap (λ (l : List ℕ). 61 ∷ l) v)
-    more is (Err field) v = inl (v.0, drop 1 bytes, is, v.1, v.2)
-
-    go : (slash equals : Bool) → starts_with nat_eq bytes (47 ∷ []) ≡ slash → starts_with nat_eq bytes (61 ∷ []) ≡ equals
-        → EndView kind bytes (if slash then Ok (Some (kind, drop 1 bytes)) else if equals then behind_line (drop 1 bytes) else Err LineEnd)
-    go true equals s e = inl (refl, begins (47 ∷ []) bytes s)
-    go false true s e = more (begins (61 ∷ []) bytes e) (behind_line (drop 1 bytes)) (equals_view (drop 1 bytes))
-    go false false s e = inr (refl, s, e)
+end_view kind bytes = grind (arith, common_steps, begins, equals_view)
 
 -- ---- an entry and what is behind it
 
@@ -103,11 +83,7 @@ prepend_twice xs ys (Err field) = refl
 
 slash_again : (kind : Line) (before : List Entry) (rest : List ℕ) → AllByRecursion (IsEntry kind) before
     → items_from (Some (kind, slashed before ++ rest)) ≡ Prepend (map asked before) (items_from (Some (kind, rest)))
-slash_again kind [] rest all = go (items_from (Some (kind, rest)))
-  where
-    go : (r : Result (List Item) RequestField) → r ≡ Prepend [] r
-    go (Ok items) = refl
-    go (Err field) = refl
+slash_again kind [] rest all = grind (arith, common_steps)
 slash_again kind (entry ∷ more) rest all =
     let bytes : List ℕ = slashed more ++ rest in
     let step : step_at (kind, entry_text entry ++ 47 ∷ bytes) ≡ Ok (asked entry, Some (kind, bytes)) =
@@ -140,23 +116,11 @@ after_start Sqn rest = refl
 after_start Ahd rest = refl
 
 line_again : (line : AskedLine) (rest : List ℕ) → IsLine line → after (line_text line ++ rest) ≡ Prepend (line_items line) (after rest)
-line_again line rest is =
-    let bytes : List ℕ = entry_text line.last ++ 61 ∷ rest in
-    let spelled : line_text line ++ rest ≡ line_start line.kind ++ (slashed line.before ++ bytes) = simp append_assoc in
-    ap after spelled ∙ after_start line.kind (slashed line.before ++ bytes) ∙ slash_again line.kind line.before bytes is.0
-    ∙ ap (Prepend (map asked line.before)) (last_again line.kind line.last rest is.1)
-    ∙ prepend_twice (map asked line.before) (asked line.last ∷ []) (after rest)
+line_again line rest is = grind (arith, common_steps, after, after_start, slash_again, last_again, prepend_twice)
 
 pub lines_again : (lines : List AskedLine) (rest : List ℕ) → AllByRecursion IsLine lines → after (lines_text lines ++ rest) ≡ Prepend (lines_items lines) (after rest)
-lines_again [] rest all = go (after rest)
-  where
-    go : (r : Result (List Item) RequestField) → r ≡ Prepend [] r
-    go (Ok items) = refl
-    go (Err field) = refl
-lines_again (line ∷ more) rest all =
-    ap after (append_assoc (line_text line) (lines_text more) rest) ∙ line_again line (lines_text more ++ rest) all.0
-    ∙ ap (Prepend (line_items line)) (lines_again more rest all.1)
-    ∙ prepend_twice (line_items line) (lines_items more) (after rest)
+lines_again [] rest all = grind (arith, common_steps, after)
+lines_again (line ∷ more) rest all = grind (arith, common_steps, after, line_again, prepend_twice, lines_again more rest all.1)
 
 -- ---- a place, read by the grammar
 
@@ -317,13 +281,7 @@ entry_view n kind bytes entry rest is ends spelled h again (Err field) (inl v) =
   goes_on = v.3;
   stops = inl (v.0, v.4);
 })
-entry_view n kind bytes entry rest is ends spelled h again (Err field) (inr v) = inl (record {
-  before = [];
-  rest = bytes;
-  are_entries = tt;
-  spelled = refl;
-  lacks = inr (v.0, record { entry = entry; rest = rest; is_entry = is; ends = ends; spelled = spelled; no_slash = v.1; no_equals = v.2 });
-})
+entry_view n kind bytes entry rest is ends spelled h again (Err field) (inr v) = grind (arith, common_steps)
 
 place_view : (n : ℕ) (place : Place) → length place.1 < n → Placed n place
 place_view zero place h = absurd (omega arith)
@@ -355,23 +313,7 @@ asker_again asker rest is =
     ∙ ap (λ (l : List ℕ). found l (drop 4 (asker ++ rest))) front ∙ ap (found asker) back
 
 capitals_view : (text : List ℕ) → CapitalsView text (capitals_at 4 Cccc text)
-capitals_view text = go (nat_le 4 (length text) && are_capitals (take 4 text)) refl
-  where
-    and_true : (a b : Bool) → (a && b) ≡ true → (a ≡ true) × (b ≡ true)
-    and_true true b e = (refl, e)
-    and_true false b e = absurd (false≢true e)
-
-    none : (nat_le 4 (length text) && are_capitals (take 4 text)) ≡ false → (asker rest : List ℕ) → IsAsker asker → text ≡ asker ++ rest → ⊥
-    none fails asker rest is spelled =
-        let there : capitals_at 4 Cccc text ≡ Ok (asker, rest) = ap (capitals_at 4 Cccc) spelled ∙ asker_again asker rest is in
-        let not : capitals_at 4 Cccc text ≡ Err Cccc = ap (λ (t : Bool). if t then found (take 4 text) (drop 4 text) else Err Cccc) fails in
-        absurd (let both : Err Cccc ≡ found asker rest = sym not ∙ there in cc)
-
-    go : (t : Bool) → (nat_le 4 (length text) && are_capitals (take 4 text)) ≡ t → CapitalsView text (if t then found (take 4 text) (drop 4 text) else Err Cccc)
-    go true is =
-        let both = and_true (nat_le 4 (length text)) (are_capitals (take 4 text)) is in
-        ((length-take-le 4 text (leb-true 4 (length text) both.0), both.1), sym (take-append-drop 4 text))
-    go false is = none is
+capitals_view text = grind (arith, common_steps, asker_again, length-take-le, leb-true, take-append-drop)
 
 abbrev TextView : List ℕ → Result (List Item) RequestField → Type 0
 TextView text (Ok items) = IsRequestFor text items
@@ -445,11 +387,7 @@ behind_of asker rest is = ap (λ (r : Result (List ℕ × List ℕ) MessageField
 after_opens : (rest : List ℕ) → (rest ≡ [] → ⊥) → after rest ≡ opened (line_start_at rest)
 unfolding after items_from
 after_opens [] some = absurd (some refl)
-after_opens (x ∷ xs) some = go (line_start_at (x ∷ xs))
-  where
-    go : (r : Result Place RequestField) → ((r >>= λ place. Ok (Some place)) >>= items_from) ≡ opened r
-    go (Ok place) = refl
-    go (Err field) = refl
+after_opens (x ∷ xs) some = grind (arith, common_steps)
 
 text_starts : (line : AskedLine) (more : List ℕ) → line_text line ++ more ≡ [] → ⊥
 text_starts line more e = start_is_there line.kind ((slashed line.before ++ entry_text line.last ++ 61 ∷ []) ++ more) (let s : line_start line.kind ++ ((slashed line.before ++ entry_text line.last ++ 61 ∷ []) ++ more) ≡ line_text line ++ more = simp append_assoc in s ∙ e)

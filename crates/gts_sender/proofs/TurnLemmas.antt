@@ -5,6 +5,8 @@ use Rattle.gts_sender.specs.Cited.{Accepted, Asked, Choice, Directory, Done, Dra
 use Rattle.gts_event.proofs.LawLemmas.{after_all-append}
 use Rattle.gts_calls.specs.{entries}
 use Rattle.gts_calls.proofs.LawLemmas.{frames_append, frames_one}
+use Rattle.std.proofs.lemmas.Grind.{common_steps}
+use Rattle.std.proofs.Common.{arith}
 
 abbrev pub taken : ℕ → Entry
 taken c = Done (Taken c)
@@ -35,10 +37,7 @@ behind_takes d s name c n = ap (after_all d s) (entries_all name (takes c n)) �
 
 pub state_behind : (d : Directory) (s : State) (base : List (ℕ × Entry)) (name c n : ℕ)
     → after_all d s (entries (base ++ under name (takes c n))) ≡ after_takes d (after_all d s (entries base)) c n
-state_behind d s base name c n =
-    ap (after_all d s) (map-append (λ (x : ℕ × Entry). x.1) base (under name (takes c n)))
-    ∙ after_all-append d s (entries base) (entries (under name (takes c n)))
-    ∙ behind_takes d (after_all d s (entries base)) name c n
+state_behind d s base name c n = grind (arith, common_steps, map-append, after_all-append, behind_takes)
 
 -- ---- what a take gives
 
@@ -81,16 +80,7 @@ frames_given d s name c (frame ∷ given) gave =
 pub frames_no_more : (d : Directory) (s : State) (name c : ℕ) (given : List Frame) → GaveNoMore d s c given
     → frames d s name (under name (takes c (length given + 1))) ≡ texts given
 frames_no_more d s name c given gave =
-    let n : ℕ = length given in
-    let front : List (ℕ × Entry) = under name (takes c n) in
-    let t : State = after_all d s (entries front) in
-    let nothing : outcome d t (Taken c) ≡ Nothing = ap (λ (u : State). outcome d u (Taken c)) (behind_takes d s name c n) ∙ gave.nothing in
-    ap (λ (l : List Entry). frames d s name (under name l)) (sym (one_take c n))
-    ∙ ap (frames d s name) (map-append (λ (e : Entry). (name, e)) (takes c n) (taken c ∷ []))
-    ∙ frames_append d s name front ((name, taken c) ∷ [])
-    ∙ ap (λ (l : List ℕ). frames d s name front ++ l) (frames_one d t name (taken c) ∙ ap (frame_of_outcome d (after d t (Taken c)) c) nothing)
-    ∙ append-nil (frames d s name front)
-    ∙ frames_given d s name c given gave.gave
+    grind (arith, common_steps, behind_takes, one_take, map-append, frames_append, frames_one, append-nil, frames_given)
 
 -- those in front of one of them, and that one
 pub gave_front : (d : Directory) (s : State) (c : ℕ) (front : List Frame) (frame : Frame) (back : List Frame) → GaveAll d s c (front ++ frame ∷ back)

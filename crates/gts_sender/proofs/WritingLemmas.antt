@@ -1,8 +1,9 @@
 -- Frames that are written one after another.
-use Rattle.std.proofs.Common.{◌≡◌, ◌<◌, ◌≤◌, ◌+◌, ℕ, suc, List, [], ◌∷◌, ◌++◌, length, take, drop, Result, Ok, Err, refl, sym, ap, ◌∙◌, arith, append_assoc, add-one}
+use Rattle.std.proofs.Common.{◌≡◌, ◌<◌, ◌≤◌, ◌+◌, ℕ, suc, List, [], ◌∷◌, ◌++◌, length, take, drop, Result, Ok, Err, refl, sym, ap, ◌∙◌, arith, append_assoc}
 use Rattle.gts_sender.specs.Cited.{Frame, IsFront, Laid, Placed, Wrote, WroteUpTo, frames_in, frames_of, no_frame, slice_index_or, texts}
-use Rattle.std.proofs.Math.Seq.{take-suc, split_at}
+use Rattle.std.proofs.Math.Seq.{split_at}
 use Rattle.std.proofs.lemmas.List.{append-nil, take_all}
+use Rattle.std.proofs.lemmas.Grind.{common_steps}
 
 texts-append : (xs ys : List Frame) → texts (xs ++ ys) ≡ texts xs ++ texts ys
 texts-append [] ys = refl
@@ -19,10 +20,7 @@ there laid i within = omega (arith, within, frames-length laid.each laid.bytes)
 -- one frame more
 pub one_more : (given : List Frame) (i : ℕ) (frame : Frame) → i < length given → slice_index_or given i no_frame ≡ frame
     → texts (take (i + 1) given) ≡ texts (take i given) ++ frame.text
-one_more given i frame within is =
-    ap (λ (n : ℕ). texts (take n given)) (add-one i) ∙ ap texts (take-suc given i no_frame within)
-    ∙ texts-append (take i given) (slice_index_or given i no_frame ∷ [])
-    ∙ ap (λ (l : List ℕ). texts (take i given) ++ l) (append-nil (slice_index_or given i no_frame).text ∙ ap (λ (f : Frame). f.text) is)
+one_more given i frame within is = grind (arith, common_steps, texts-append, append-nil)
 
 -- all of them
 pub all_of : (laid : Laid) (n : ℕ) → length laid.each ≤ n → texts (take n (frames_of laid)) ≡ texts (frames_of laid)

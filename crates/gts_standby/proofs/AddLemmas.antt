@@ -5,6 +5,7 @@ use Rattle.std.proofs.lemmas.List.{append_assoc}
 use Rattle.gts_standby.specs.Cited.{Accept, Breaks, Call, Core, Directory, Drew, Ends, HoldsAt, InHand, IsOpened, Need, OpenFault, OpensTo, Read, Record, StandsFor, State, Taken, Version, add_all, adding, admits, after, event_of_record, files_read, may_be_cut, may_begin, need, opened_of, record_behind, record_size, record_text, restarted, seal, seal_size, sealed, sealed_at, seen, stopped, written}
 use Rattle.gts_record.specs.Record.{record_at}
 use Rattle.gts_record.proofs.LawLemmas.{record_at-found, sealed_at-stands, sealed_fits, length-sealed}
+use Rattle.std.proofs.lemmas.Grind.{common_steps}
 
 pub holds_of : (observed : Type 0) (d : Directory) (calls : List Call) (core : Core) (j : InHand) (o : IsOpened observed d calls core j) → HoldsAt observed d o.state calls core j
 holds_of observed d calls core j o = record { kept = o.kept; current = o.current; ended = o.ended; stands = o.stands }
@@ -81,15 +82,7 @@ some_text (Accept from kind position body) = omega arith
 some_text (Drew circuit position index) = omega arith
 
 pub not_empty : (d : Directory) (before : List ℕ) (s : State) (gate : ℕ) (fed : List ℕ) (r : Record) → record_behind written d before s gate fed ≡ Some r → 1 ≤ length fed
-not_empty d before s gate [] r is = absurd (by_sealed (sealed_at written before []) refl is)
-  where
-    by_sealed : (o : Option Record) → o ≡ sealed_at written before [] → behind_by written d s gate o ≡ Some r → ⊥
-    by_sealed None e is = absurd (let f : None ≡ Some r = is in cc f)
-    by_sealed (Some q) e is =
-        let stands = (sealed_at-stands written before [] q (sym e)).0 in
-        let size = length-sealed written before (record_text q) in
-        let none : 0 ≡ length (sealed written before (record_text q) ++ stands.0) = ap (λ (l : List ℕ). length l) stands.1 in
-        absurd (let long = some_text q in omega (arith, none, length-append (sealed written before (record_text q)) stands.0, size, long))
+not_empty d before s gate [] r is = grind (arith, common_steps, sealed_at-stands, length-sealed, some_text)
 not_empty d before s gate (x ∷ fed) r is = omega arith
 
 pred_is : (n k : ℕ) → 1 ≤ k → k ≤ n → suc (n - 1) ≡ n
@@ -98,18 +91,12 @@ pred_is n k some low = omega (arith, some, low)
 -- the record that stands next is added, and then the others
 pub one_step : (d : Directory) (n : ℕ) (before : List ℕ) (s : State) (gate at : ℕ) (fed : List ℕ) (r : Record) → length fed ≤ n → record_behind written d before s gate fed ≡ Some r
     → add_all written d n before s gate at fed ≡ added_by d (n - 1) before s gate at fed (Some r)
-one_step d n before s gate at fed r enough is =
-    ap (λ (k : ℕ). add_all written d k before s gate at fed) (sym (pred_is n (length fed) (not_empty d before s gate fed r is) enough))
-    ∙ step d (n - 1) before s gate at fed r is
+one_step d n before s gate at fed r enough is = grind (arith, common_steps, pred_is, not_empty, step)
 
 -- where no record stands next, nothing is added
 pub no_step : (d : Directory) (n : ℕ) (before : List ℕ) (s : State) (gate at : ℕ) (fed : List ℕ) → length fed ≤ n → record_behind written d before s gate fed ≡ None
     → add_all written d n before s gate at fed ≡ cond (may_be_cut written fed) (stopped Ends) (stopped (Breaks at))
-no_step d zero before s gate at fed few none = ap (λ (l : List ℕ). cond (may_be_cut written l) (stopped Ends) (stopped (Breaks at))) (sym (no_bytes fed few))
-  where
-    no_bytes : (l : List ℕ) → length l ≤ 0 → l ≡ []
-    no_bytes [] few = refl
-    no_bytes (x ∷ l) few = absurd (omega (arith, few))
+no_step d zero before s gate at fed few none = grind (arith, common_steps)
 no_step d (suc n) before s gate at fed few none = ap (added_by d n before s gate at fed) none
 
 abbrev pub opened_need : Directory → Read → Result Need OpenFault

@@ -6,6 +6,7 @@ use Rattle.gts_standby.specs.Cited.{Call, Directory, EachSince, Files, FitsLimit
 use Rattle.gts_traits.proofs.LawLemmas.{weaker, joined}
 use Rattle.gts_opening.proofs.LawLemmas.{file_opens-checkpoint, selected_few}
 use Rattle.gts_journal.proofs.LawLemmas.{selected_stands, both_left, same_stands_for}
+use Rattle.std.proofs.lemmas.Grind.{common_steps}
 
 -- ---- what a crash leaves
 
@@ -71,15 +72,8 @@ holds_begun d n file mid wrote long limit sound free room =
 
 pub begun_stands : (d : Directory) (s : State) (n : Need) (mid new : List Call) (j next : InHand) (o used : ℕ) (last : List ℕ) → StandsOn mid j → StandsFor d s mid j → HoldsState written d (begun n) mid o used last → 0 < used
     → seen new o ≡ seen mid o → StandsOn new next → next ≡ selecting written o used last j → StandsFor d (begun n) new next
-begun_stands d s n mid new j next o used last standing f holds some same stands is =
-    let P : InHand → Type 0 = λ k. StandsOn new k in
-    subst (λ (k : InHand). StandsFor d (begun n) new k) (sym is) (selected_stands d s mid j f (begun n) o used last holds new some same (subst P is stands))
+begun_stands d s n mid new j next o used last standing f holds some same stands is = grind (arith, common_steps, selected_stands)
 
 -- the journal stands for what it stood for while the other file is written
 pub still_stands_for : (d : Directory) (s : State) (calls mid : List Call) (j : InHand) → StandsFor d s calls j → j.file < 2 → WorksBeside (1 - j.file) calls mid → StandsFor d s mid j
-still_stands_for d s calls mid j f low beside =
-    let not_other : j.file ≢ 1 - j.file = λ e. omega (arith, e, low) in
-    let not_selector : 2 ≢ 1 - j.file = λ e. omega (arith, e, low) in
-    same_stands_for d s calls mid j
-    (beside.seen 2 not_selector, beside.synced 2 not_selector f.stands.selector_synced)
-    (beside.seen j.file not_other, beside.synced j.file not_other f.stands.file_synced) f
+still_stands_for d s calls mid j f low beside = grind (arith, common_steps, same_stands_for)

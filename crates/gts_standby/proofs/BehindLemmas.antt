@@ -1,24 +1,18 @@
 -- What is behind a place ends the feed.
 use Rattle.std.proofs.Common.{◌≡◌, ℕ, zero, suc, ◌+◌, ◌-◌, Bool, true, false, ◌&&◌, nat_eq, nat_le, List, [], ◌∷◌, ◌++◌, length, drop, Option, Some, None, inl, inr, refl, sym, ap, subst, ◌∙◌, arith, append_assoc, ◌==◌, ◌⊎◌}
-use Rattle.gts_standby.specs.Cited.{EndsWith, HasFront, IsBehindFront, Need, Record, Version, behind_at, behind_place, checkpoint_text, compacted_bytes, feed_at, feed_behind, first_seal, found_since, held, is_checkpoint, need_in, open_gate, pointwise, record_at, record_size, record_text, same_text, seal, sealed, sealed_at, where_so}
+use Rattle.gts_standby.specs.Cited.{EndsWith, HasFront, IsBehindFront, Need, Record, Version, behind_at, behind_place, checkpoint_text, compacted_bytes, feed_at, feed_behind, first_seal, found_since, held, is_checkpoint, need_in, pointwise, record_at, record_size, record_text, same_text, seal, sealed, where_so}
 use Rattle.std.proofs.lemmas.Bool.{and_parts}
 use Rattle.std.proofs.lemmas.List.{append-nil}
 use Rattle.gts_journal.proofs.LawLemmas.{one_back}
 use Rattle.gts_standby.proofs.FeedLemmas.{feed_of_record, feed_of_gate}
 use Rattle.gts_standby.proofs.SinceLemmas.{by_place}
+use Rattle.std.proofs.lemmas.Grind.{common_steps}
 
 -- a record behind an open gate is the next one of the feed
 pub feed_on : (v : Version) (n : ℕ) (before bytes : List ℕ) (r : Record) → record_at v before bytes ≡ Some r
     → feed_at v (suc n) before bytes ≡ sealed v before (record_text r) ++ feed_at v n (seal v before (record_text r)) (drop (record_size v r) bytes)
 feed_on v n before [] r is = absurd (let none : Option Record = None in let f : none ≡ Some r = is in cc f)
-feed_on v n before (mark ∷ bytes) r is = by_mark (mark == open_gate) is
-  where
-    by_mark : (b : Bool) → elim b as (λ _. Option Record) [ false ↦ None | true ↦ sealed_at v before bytes ] ≡ Some r
-        → feed_of_gate v n before bytes b ≡ sealed v before (record_text r) ++ feed_at v n (seal v before (record_text r)) (drop (record_size v r) (mark ∷ bytes))
-    by_mark false is = absurd (let none : Option Record = None in let f : none ≡ Some r = is in cc f)
-    by_mark true is =
-        ap (feed_of_record v n before bytes) is
-        ∙ ap (λ (l : List ℕ). sealed v before (record_text r) ++ feed_at v n (seal v before (record_text r)) l) (one_back (record_size v r) mark bytes (omega arith))
+feed_on v n before (mark ∷ bytes) r is = grind (arith, common_steps, feed_of_gate, feed_of_record, one_back)
 
 -- one record more in front
 front_more : (v : Version) (before text whole last left : List ℕ) → IsBehindFront whole (seal v before text) last left → IsBehindFront (sealed v before text ++ whole) before last left

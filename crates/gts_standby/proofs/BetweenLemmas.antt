@@ -11,6 +11,7 @@ use Rattle.gts_standby.proofs.FirstLemmas.{by_admission}
 use Rattle.gts_standby.proofs.HistoryLemmas.{header_is}
 use Rattle.gts_standby.proofs.SinceLemmas.{by_place}
 use Rattle.gts_standby.proofs.TakeLemmas.{sound_header}
+use Rattle.std.proofs.lemmas.Grind.{common_steps}
 
 -- the place of the gate behind these records
 abbrev gate_behind : Version → List (List ℕ) → ℕ
@@ -92,8 +93,7 @@ begins_packed v first bytes =
 
 front_found : (v : Version) (first bytes : List ℕ) (place : ℕ) (last left : List ℕ) (b : Bool) → behind_place v first bytes place last b ≡ Some left
     → IsFront v first (feed_behind v first bytes b) place last left
-front_found v first bytes place last left false is =
-    front_at v first (feed_behind v first bytes false) (length bytes) first 40 (drop 40 bytes) place last left (begins_plain v first bytes) is
+front_found v first bytes place last left false is = grind (arith, common_steps, front_at, begins_plain)
 front_found v first bytes place last left true is =
     let n : Need = need_in (drop 41 bytes) in
     front_at v first (feed_behind v first bytes true) (length bytes) (seal v first (checkpoint_text n)) (compacted_bytes v n - 1) (drop (compacted_bytes v n - 1) bytes) place last left (begins_packed v first bytes) is
@@ -168,9 +168,7 @@ module _ (v : Version) (mark one other : List ℕ) (own : AreOneBySeal v mark on
 -- a last seal is held whole
 held_whole : (v : Version) (mark : List ℕ) (texts : List (List ℕ)) → held v (seal_behind v (first_seal v mark) texts) ≡ seal_behind v (first_seal v mark) texts
 held_whole v mark [] = take_all (seal_size v) (first_seal v mark) (omega (arith, length-seal v [] (magic v ++ mark)))
-held_whole v mark (text ∷ texts) =
-    let before : List ℕ = seal_behind v (first_seal v mark) texts in
-    take_all (seal_size v) (seal v before text) (omega (arith, length-seal v before text))
+held_whole v mark (text ∷ texts) = grind (arith, common_steps, take_all, length-seal)
 
 pub feed_between : (d : Directory) (own files : Files) (fed whole left : List ℕ) → IsFoundBehind d own files fed whole left → whole ≡ fed ++ left
 feed_between d own files fed whole left h =

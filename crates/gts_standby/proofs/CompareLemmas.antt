@@ -1,12 +1,13 @@
 -- The records of a journal are compared with those of a feed.
-use Rattle.std.proofs.Common.{◌≡◌, inl, inr, ℕ, ◌+◌, ◌-◌, ◌<◌, ◌≤◌, Bool, true, false, cond, nat_eq, List, [], ◌∷◌, length, drop, Option, Some, Result, Ok, Err, refl, sym, ap, subst, ◌∙◌, arith}
-use Rattle.gts_standby.specs.Cited.{Call, Compares, Did, Directory, DiskFault, Diverged, Done, Feed, FollowEnd, Gives, HasCompared, HasGoneOn, HasRead, InFeed, InHand, IsAtFirst, IsAtSeals, IsBehindOne, IsDamage, IsDevice, IsFaultOf, IsOwnEnd, Leads, Need, NoMemory, Open, OpenFault, Parts, PassesNext, Piece, Sealed, SourceFault, StandsOn, StopsAs, StopsAt, Syncs, Taken, Version, admits_checkpoint, by_piece, checkpoint_seals, checkpoint_text, compacted_bytes, compare_all, compare_first, compared, file_of, first_piece, first_seal, held, is_at_checkpoint, is_checkpoint, need_in, next_entry, next_seal, open_end, own_seals, pointwise, record_of, record_piece, record_size, seal, seals_at, seals_behind, seals_here, seen, selected, stopped, written}
+use Rattle.std.proofs.Common.{◌≡◌, inl, inr, ℕ, ◌+◌, ◌-◌, ◌<◌, ◌≤◌, Bool, true, false, nat_eq, List, [], ◌∷◌, length, drop, Option, Some, Result, Ok, Err, refl, sym, ap, subst, ◌∙◌, arith}
+use Rattle.gts_standby.specs.Cited.{Call, Compares, Did, Directory, Diverged, Done, Feed, FollowEnd, Gives, HasCompared, HasGoneOn, HasRead, InFeed, InHand, IsAtFirst, IsAtSeals, IsBehindOne, IsDamage, IsDevice, IsFaultOf, Leads, Need, Open, OpenFault, Parts, PassesNext, Piece, Sealed, StandsOn, StopsAs, StopsAt, Syncs, Taken, Version, admits_checkpoint, by_piece, checkpoint_seals, checkpoint_text, compacted_bytes, compare_all, compare_first, file_of, first_piece, first_seal, held, is_at_checkpoint, is_checkpoint, need_in, next_entry, next_seal, open_end, own_seals, pointwise, record_of, record_piece, record_size, seal, seals_at, seals_behind, seals_here, seen, stopped, written}
 use Rattle.gts_record.specs.declared.value.Record.{Record}
 use Rattle.gts_checkpoint.specs.Reading.{HasRead as HasReadNeed}
 use Rattle.gts_record.specs.Record as texts
 use Rattle.gts_record.specs.declared.fault.OpenFault.TheVariants as opening
 use Rattle.gts_standby.proofs.FeedLemmas.{leads_on, none_left, left_split, no_end, no_fault}
 use Rattle.gts_standby.proofs.FirstLemmas.{plain_first, checkpoint_reaches}
+use Rattle.std.proofs.lemmas.Grind.{common_steps}
 
 -- ---- what a journal answered
 
@@ -25,22 +26,10 @@ device_passed d calls j next end left e at low (inl gives) =
     device_entry e (next_entry calls j) gives (λ f is. no_fault j.version d j.file j.seal j.gate (file_of calls j) end at.sent f at.reaches is)
 device_passed d calls j next end left e at low (inr none) = absurd (no_end j.version d j.file j.seal j.gate (file_of calls j) end at.sent at.reaches low none)
 
--- a fault of the opening is one of the own journal
-pub own_opening : (e : OpenFault) → IsOwnEnd (open_end e)
-own_opening opening.DiskFault = tt
-own_opening opening.NoMemory = tt
-own_opening opening.NoJournal = tt
-own_opening opening.OldVersion = tt
-own_opening (opening.NotThis want found) = tt
-own_opening (opening.Damaged file at) = tt
-
 pub device_read : (v : Version) (d : Directory) (file : ℕ) (bytes : List ℕ) (e : OpenFault) → IsDamage v d file bytes e → (admits_checkpoint v d bytes (need_in bytes) ≡ false → ⊥) → IsDevice (open_end e)
 device_read v d file bytes opening.DiskFault is none = tt
 device_read v d file bytes opening.NoMemory is none = tt
-device_read v d file bytes opening.NoJournal is none = none is.1
-device_read v d file bytes opening.OldVersion is none = none is.1
-device_read v d file bytes (opening.NotThis want found) is none = none is.1
-device_read v d file bytes (opening.Damaged k at) is none = none is.1
+device_read v d file bytes _ is none = none is.1
 
 pub device_start : (e : OpenFault) (found : Option OpenFault) → IsFaultOf e found → ((f : OpenFault) → found ≡ Some f → ⊥) → IsDevice (open_end e)
 device_start opening.DiskFault found is none = tt
@@ -54,12 +43,7 @@ device_start (opening.Damaged file at) found is none = none (opening.Damaged fil
 
 moved_leads : (d : Directory) (old new : List Call) (j next : InHand) (r : Record) (end : ℕ) (rest : List (List ℕ)) → HasGoneOn j (Some r) next → seen new j.file ≡ seen old j.file
     → Leads j.version d j.file (next_seal j (record_of r)) (j.gate + record_size j.version (record_of r)) (file_of old j) end rest → IsAtSeals d new next end rest
-moved_leads d old new j next r end rest gone same it =
-    let by_seal = subst (λ (l : List ℕ). Leads j.version d j.file l (j.gate + record_size j.version (record_of r)) (file_of old j) end rest) (sym gone.3) it in
-    let by_gate = subst (λ (k : ℕ). Leads j.version d j.file next.seal k (file_of old j) end rest) (sym gone.2) by_seal in
-    let by_bytes = subst (λ (l : List ℕ). Leads j.version d j.file next.seal next.gate l end rest) (sym same) by_gate in
-    let by_file = subst (λ (k : ℕ). Leads j.version d k next.seal next.gate (seen new k) end rest) (sym gone.1) by_bytes in
-    subst (λ (v : Version). Leads v d next.file next.seal next.gate (file_of new next) end rest) (sym gone.0) by_file
+moved_leads d old new j next r end rest gone same it = grind (arith, common_steps)
 
 pub behind_one : (d : Directory) (old new : List Call) (j next : InHand) (r : Record) (end : ℕ) (left : List (List ℕ)) → IsAtSeals d old j end left → next_entry old j ≡ Ok (Some (record_of r))
     → HasGoneOn j (Some r) next → new ≡ old → IsBehindOne d new next end left
@@ -116,48 +100,28 @@ step_by next at piece = by_piece at piece next
 pub compare_on : (v : Version) (behind : ℕ → List ℕ → Taken) (left rest : List (List ℕ)) (own before fed_seal : List ℕ) (index at size : ℕ) (fed : List ℕ) → left ≡ own ∷ rest
     → record_piece v before fed ≡ Sealed size fed_seal → pointwise nat_eq own fed_seal ≡ true
     → compare_all v behind left before index at fed ≡ compare_all v behind rest own (index + 1) (at + size) (drop size fed)
-compare_on v behind left rest own before fed_seal index at size fed is piece same =
-    let next : ℕ → List ℕ → Taken = λ count other. compared index own other (compare_all v behind rest own (index + 1) (at + count) (drop count fed)) in
-    ap (λ (l : List (List ℕ)). compare_all v behind l before index at fed) is
-    ∙ ap (step_by next at) piece
-    ∙ ap (λ (b : Bool). cond b (compare_all v behind rest own (index + 1) (at + size) (drop size fed)) (stopped (Parts index own fed_seal))) same
+compare_on v behind left rest own before fed_seal index at size fed is piece same = grind (arith, common_steps)
 
 pub compare_off : (v : Version) (behind : ℕ → List ℕ → Taken) (left rest : List (List ℕ)) (own before fed_seal : List ℕ) (index at size : ℕ) (fed : List ℕ) → left ≡ own ∷ rest
     → record_piece v before fed ≡ Sealed size fed_seal → pointwise nat_eq own fed_seal ≡ false → compare_all v behind left before index at fed ≡ stopped (Parts index own fed_seal)
-compare_off v behind left rest own before fed_seal index at size fed is piece other =
-    let next : ℕ → List ℕ → Taken = λ count other. compared index own other (compare_all v behind rest own (index + 1) (at + count) (drop count fed)) in
-    ap (λ (l : List (List ℕ)). compare_all v behind l before index at fed) is
-    ∙ ap (step_by next at) piece
-    ∙ ap (λ (b : Bool). cond b (compare_all v behind rest own (index + 1) (at + size) (drop size fed)) (stopped (Parts index own fed_seal))) other
+compare_off v behind left rest own before fed_seal index at size fed is piece other = grind (arith, common_steps)
 
 pub compare_stops : (answer : FollowEnd) (v : Version) (behind : ℕ → List ℕ → Taken) (left rest : List (List ℕ)) (own before : List ℕ) (index at : ℕ) (fed unread : List ℕ) → left ≡ own ∷ rest
     → ((next : ℕ → List ℕ → Taken) → StopsAs answer (by_piece at (record_piece v before fed) next) unread) → StopsAs answer (compare_all v behind left before index at fed) unread
-compare_stops answer v behind left rest own before index at fed unread is stops =
-    let next : ℕ → List ℕ → Taken = λ count other. compared index own other (compare_all v behind rest own (index + 1) (at + count) (drop count fed)) in
-    subst (λ (l : List (List ℕ)). StopsAs answer (compare_all v behind l before index at fed) unread) (sym is) (stops next)
+compare_stops answer v behind left rest own before index at fed unread is stops = grind (arith, common_steps)
 
 pub first_on : (v : Version) (limit : ℕ) (behind : ℕ → List ℕ → Taken) (left rest : List (List ℕ)) (own before fed_seal : List ℕ) (size : ℕ) (fed : List ℕ) → left ≡ own ∷ rest
     → first_piece v limit before fed ≡ Sealed size fed_seal → pointwise nat_eq own fed_seal ≡ true
     → compare_first v limit behind left before fed ≡ compare_all v behind rest own 1 (40 + size) (drop size fed)
-first_on v limit behind left rest own before fed_seal size fed is piece same =
-    let next : ℕ → List ℕ → Taken = λ count other. compared 0 own other (compare_all v behind rest own 1 (40 + count) (drop count fed)) in
-    ap (λ (l : List (List ℕ)). compare_first v limit behind l before fed) is
-    ∙ ap (step_by next 40) piece
-    ∙ ap (λ (b : Bool). cond b (compare_all v behind rest own 1 (40 + size) (drop size fed)) (stopped (Parts 0 own fed_seal))) same
+first_on v limit behind left rest own before fed_seal size fed is piece same = grind (arith, common_steps)
 
 pub first_off : (v : Version) (limit : ℕ) (behind : ℕ → List ℕ → Taken) (left rest : List (List ℕ)) (own before fed_seal : List ℕ) (size : ℕ) (fed : List ℕ) → left ≡ own ∷ rest
     → first_piece v limit before fed ≡ Sealed size fed_seal → pointwise nat_eq own fed_seal ≡ false → compare_first v limit behind left before fed ≡ stopped (Parts 0 own fed_seal)
-first_off v limit behind left rest own before fed_seal size fed is piece other =
-    let next : ℕ → List ℕ → Taken = λ count other. compared 0 own other (compare_all v behind rest own 1 (40 + count) (drop count fed)) in
-    ap (λ (l : List (List ℕ)). compare_first v limit behind l before fed) is
-    ∙ ap (step_by next 40) piece
-    ∙ ap (λ (b : Bool). cond b (compare_all v behind rest own 1 (40 + size) (drop size fed)) (stopped (Parts 0 own fed_seal))) other
+first_off v limit behind left rest own before fed_seal size fed is piece other = grind (arith, common_steps)
 
 pub first_stops : (answer : FollowEnd) (v : Version) (limit : ℕ) (behind : ℕ → List ℕ → Taken) (left rest : List (List ℕ)) (own before : List ℕ) (fed unread : List ℕ) → left ≡ own ∷ rest
     → ((next : ℕ → List ℕ → Taken) → StopsAs answer (by_piece 40 (first_piece v limit before fed) next) unread) → StopsAs answer (compare_first v limit behind left before fed) unread
-first_stops answer v limit behind left rest own before fed unread is stops =
-    let next : ℕ → List ℕ → Taken = λ count other. compared 0 own other (compare_all v behind rest own 1 (40 + count) (drop count fed)) in
-    subst (λ (l : List (List ℕ)). StopsAs answer (compare_first v limit behind l before fed) unread) (sym is) (stops next)
+first_stops answer v limit behind left rest own before fed unread is stops = grind (arith, common_steps)
 
 -- the seals of both are answered as they are
 pub diverged : (taken : Taken) (v : Version) (index : ℕ) (own fed own_seal fed_seal unread : List ℕ) → taken ≡ stopped (Parts index own_seal fed_seal) → held written own ≡ own_seal → held written fed ≡ fed_seal
@@ -170,9 +134,7 @@ device_stops Done kind taken unread = absurd kind
 device_stops (Feed at) kind taken unread = absurd kind
 device_stops (Open fault) kind taken unread = absurd kind
 device_stops (Diverged index own fed) kind taken unread = absurd kind
-device_stops SourceFault kind taken unread = tt
-device_stops DiskFault kind taken unread = tt
-device_stops NoMemory kind taken unread = tt
+device_stops _ kind taken unread = tt
 
 -- at its end nothing is compared
 pub compared_all : (v w : Version) (d : Directory) (calls : List Call) (j : InHand) (end : ℕ) (left : List (List ℕ)) → IsAtSeals d calls j end left → end ≤ j.gate → left ≡ []
@@ -245,24 +207,12 @@ pub record HasGoneFar (d : Directory) (v : Version) (all : (ℕ → List ℕ →
 pub far_on : (d : Directory) (v : Version) (all : (ℕ → List ℕ → Taken) → Taken) (end : ℕ) (calls new : List Call) (j next : InHand) (index at size : ℕ) (ahead after_ahead : InFeed) (unread after_unread : List ℕ)
     → (so : HasGoneFar d v all end calls j index at ahead unread) → j.version ≡ v → HasCompared d so.rest j.version j.seal index at size so.fed new next end after_ahead after_unread
     → HasGoneFar d v all end new next (index + 1) (at + size) after_ahead after_unread
-far_on d v all end calls new j next index at size ahead after_ahead unread after_unread so version one = record {
-  rest = one.rest;
-  fed = drop size so.fed;
-  same = λ behind.
-      so.same behind
-      ∙ ap (λ (w : Version). compare_all w behind so.rest j.seal index at so.fed) (sym version)
-      ∙ one.same behind
-      ∙ ap (λ (w : Version). compare_all w behind one.rest next.seal (index + 1) (at + size) (drop size so.fed)) version;
-  on = one.on;
-  read = one.read;
-}
+far_on d v all end calls new j next index at size ahead after_ahead unread after_unread so version one = grind (arith, common_steps)
 
 pub far_stops : (answer : FollowEnd) (d : Directory) (v : Version) (all : (ℕ → List ℕ → Taken) → Taken) (end : ℕ) (calls : List Call) (j : InHand) (index at : ℕ) (ahead : InFeed) (unread after_unread : List ℕ)
     → (so : HasGoneFar d v all end calls j index at ahead unread) → j.version ≡ v → ((behind : ℕ → List ℕ → Taken) → StopsAs answer (compare_all j.version behind so.rest j.seal index at so.fed) after_unread)
     → (behind : ℕ → List ℕ → Taken) → StopsAs answer (all behind) after_unread
-far_stops answer d v all end calls j index at ahead unread after_unread so version stops behind =
-    subst (λ (t : Taken). StopsAs answer t after_unread)
-    (sym (so.same behind ∙ ap (λ (w : Version). compare_all w behind so.rest j.seal index at so.fed) (sym version))) (stops behind)
+far_stops answer d v all end calls j index at ahead unread after_unread so version stops behind = grind (arith, common_steps)
 
 pub far_done : (d : Directory) (v : Version) (all : (ℕ → List ℕ → Taken) → Taken) (end : ℕ) (calls : List Call) (j : InHand) (index at : ℕ) (ahead : InFeed) (unread : List ℕ)
     → HasGoneFar d v all end calls j index at ahead unread → end ≤ j.gate → let done : Result ℕ FollowEnd = Ok at in Compares done all ahead unread
@@ -280,11 +230,4 @@ compares_same (Err e) one other ahead unread same is = λ behind. subst (λ (t :
 pub same_seals : (d : Directory) (old now : List Call) (j own : InHand) (mark : List ℕ) → now ≡ Did Syncs ∷ old → StandsOn old j → StandsOn now own → own.version ≡ written → own.seal ≡ first_seal own.version mark → mark ≡ d.mark
     → (limit : ℕ) (behind : ℕ → List ℕ → Taken) (fed : List ℕ)
     → compare_first written limit behind (own_seals d (file_of old j)) (first_seal written d.mark) fed ≡ compare_first own.version limit behind (seals_here d now own) own.seal fed
-same_seals d old now j own mark synced stands standing version sealed ours limit behind fed =
-    let place : own.file ≡ j.file = sym standing.selected_is ∙ ap (λ (calls : List Call). selected (seen calls)) synced ∙ stands.selected_is in
-    let bytes : file_of old j ≡ file_of now own = sym (ap (λ (calls : List Call). seen calls own.file) synced ∙ ap (seen old) place) in
-    let seal_so : first_seal written d.mark ≡ own.seal = ap (first_seal written) (sym ours) ∙ ap (λ (v : Version). first_seal v mark) (sym version) ∙ sym sealed in
-    let seals_of : List ℕ → List (List ℕ) = λ l. own_seals d l in
-    ap (λ (l : List ℕ). compare_first written limit behind (seals_of l) (first_seal written d.mark) fed) bytes
-    ∙ ap (λ (l : List ℕ). compare_first written limit behind (own_seals d (file_of now own)) l fed) seal_so
-    ∙ ap (λ (v : Version). compare_first v limit behind (seals_behind v (first_seal v d.mark) (file_of now own) (is_checkpoint (file_of now own))) own.seal fed) (sym version)
+same_seals d old now j own mark synced stands standing version sealed ours limit behind fed = grind (arith, common_steps)

@@ -1,13 +1,13 @@
 -- The next record of a feed, by the bytes that were read ahead.
-use Rattle.std.proofs.Common.{◌≡◌, ◌⊎◌, ⊎_elim, ℕ, ◌+◌, ◌-◌, ◌<◌, ◌≤◌, Bool, true, false, cond, List, [], ◌∷◌, ◌++◌, length, take, drop, replicate, Option, Some, None, Result, Ok, Err, nat_eq, refl, sym, ap, subst, ◌∙◌, arith, length-append, nat_lt, nat_le, is_some, min, codes, IfOk, IsErrOf, append_assoc}
-use Rattle.std.proofs.lemmas.List.{drop_all, take_all}
+use Rattle.std.proofs.Common.{◌≡◌, ◌⊎◌, ⊎_elim, ℕ, ◌+◌, ◌-◌, ◌≤◌, Bool, true, false, cond, List, [], ◌∷◌, ◌++◌, length, replicate, Option, Some, None, refl, sym, ap, subst, ◌∙◌, arith, length-append, nat_lt, nat_le, is_some, append_assoc}
 use Rattle.std.proofs.lemmas.Bool.{le-ltb}
 use Rattle.std.proofs.lemmas.Bool.Decides.{nat_tests}
-use Rattle.gts_standby.specs.Cited.{Accept, An, Bi, Breaks, Broken, Cut, DiskFault, Diverged, Done, Drew, Ends, Feed, FollowEnd, Fx, HasRead, InFeed, IsFedEnd, IsLookedEnd, IsUnsealed, LONGEST, LONGEST_BODY, NoMemory, Open, Piece, Record, Sealed, SourceFault, StopsAs, Taken, Version, by_piece, is_short, may_be_cut, may_begin, record_piece, record_size, record_text, rest_of, seal, seal_size, sealed, sealed_at, starts_with, stopped, unsealed}
+use Rattle.gts_standby.specs.Cited.{Accept, An, Bi, Breaks, Broken, Cut, Done, Drew, Ends, Feed, FollowEnd, Fx, HasRead, InFeed, IsUnsealed, LONGEST, LONGEST_BODY, Piece, Record, Sealed, StopsAs, Taken, Version, by_piece, is_short, may_be_cut, may_begin, record_piece, record_size, record_text, rest_of, seal, seal_size, sealed, sealed_at, stopped, unsealed}
 use Rattle.gts_record.specs.Record.{record_at}
 use Rattle.gts_record.proofs.LawLemmas.{record_at-found, record_at-stands, found_fits, length-sealed, sealed_at-found, sealed_at-stands, sealed_fits}
 use Rattle.gts_standby.proofs.HeaderLemmas.{no_more}
 use Rattle.gts_journal.proofs.LawLemmas.{few_bytes}
+use Rattle.std.proofs.lemmas.Grind.{common_steps}
 
 -- ---- records at the front of bytes and of more
 
@@ -68,29 +68,35 @@ none_read v before fed left ahead read enough none = none_among v before fed lef
 
 -- ---- a record that is cut is short
 
-none_longer : (bytes more : List ℕ) → LONGEST ≤ length bytes → record_at bytes ≡ None → (o : Option Record) → o ≡ record_at (bytes ++ more) → is_some o ≡ false
-none_longer bytes more long none None is = refl
-none_longer bytes more long none (Some q) is =
-    let found : record_at (bytes ++ more) ≡ Some q = sym is in
-    let low : length (record_text q) ≤ length bytes = omega (arith, long, text_length q (record_at-stands (bytes ++ more) q found).1) in
-    let both : Some q ≡ None = sym (record_front bytes more q found low) ∙ none in absurd (cc both)
+-- a record that is found in more bytes is found in these, if they are as many as it has
+pub same_found : (p more : List ℕ) → ((q : Record) → record_at (p ++ more) ≡ Some q → length (record_text q) ≤ length p) → is_some (record_at (p ++ more)) ≡ is_some (record_at p)
+same_found p more low = go (record_at p) refl (record_at (p ++ more)) refl
+  where
+    go : (o : Option Record) → record_at p ≡ o → (u : Option Record) → record_at (p ++ more) ≡ u → is_some u ≡ is_some o
+    go None none None is = refl
+    go (Some r) found (Some q) is = refl
+    go None none (Some q) is = absurd (let e : Some q ≡ None = sym (record_front p more q is (low q is)) ∙ none in cc e)
+    go (Some r) found None none =
+        let stands = (record_at-stands p r found).0 in
+        let there : record_at (p ++ more) ≡ Some r =
+        record_at-found r (p ++ more) (found_fits p r found) (stands.0 ++ more, ap (λ (l : List ℕ). l ++ more) stands.1 ∙ append_assoc (record_text r) stands.0 more) in
+        absurd (let e : Some r ≡ None = sym there ∙ none in cc e)
 
 long_begins_none : (bytes : List ℕ) → LONGEST ≤ length bytes → record_at bytes ≡ None → may_begin bytes ≡ false
 long_begins_none [] long none = absurd (let some : 1 ≤ LONGEST = omega arith in omega (arith, long, some))
 long_begins_none (byte ∷ bytes) long none =
     let all : List ℕ = byte ∷ bytes in
-    let rest : List ℕ = rest_of (byte ∷ bytes) in
-    let zeros : List ℕ = replicate LONGEST_BODY 0 in
-    ap (λ (l : List ℕ). is_some (record_at l)) (append_assoc all rest zeros) ∙ none_longer all (rest ++ zeros) long none (record_at (all ++ (rest ++ zeros))) refl
+    let more : List ℕ = rest_of all ++ replicate LONGEST_BODY 0 in
+    ap (λ (l : List ℕ). is_some (record_at l)) (append_assoc all (rest_of all) (replicate LONGEST_BODY 0))
+    ∙ same_found all more (λ q found. omega (arith, long, text_length q (record_at-stands (all ++ more) q found).1))
+    ∙ ap (λ (o : Option Record). is_some o) none
 
 abbrev cut_by : Version → List ℕ → Option Record → Bool
 cut_by v bytes o = elim o as (λ _. Bool) [ None ↦ may_begin bytes | Some r ↦ nat_lt (length bytes) (length (record_text r) + seal_size v) ]
 
 cut_none : (v : Version) (bytes : List ℕ) → LONGEST ≤ length bytes → (o : Option Record) → o ≡ record_at bytes → cut_by v bytes o ≡ false
 cut_none v bytes long None is = long_begins_none bytes long (sym is)
-cut_none v bytes long (Some r) is =
-    let few : length (record_text r) + seal_size v ≤ length bytes = omega (arith, long, few_bytes v, text_length r (record_at-stands bytes r (sym is)).1) in
-    le-ltb (length bytes) (length (record_text r) + seal_size v) few
+cut_none v bytes long (Some r) is = grind (arith, common_steps, few_bytes, text_length, record_at-stands, le-ltb)
 
 pub long_is_whole : (v : Version) (bytes : List ℕ) → LONGEST ≤ length bytes → may_be_cut v bytes ≡ false
 long_is_whole v bytes long = cut_none v bytes long (record_at bytes) refl
@@ -98,33 +104,24 @@ long_is_whole v bytes long = cut_none v bytes long (record_at bytes) refl
 -- ---- how a feed ends there
 
 -- the feed as a whole is cut there, or isn't, as the answer says
-pub cut_fed : (v : Version) (fed left : List ℕ) (ahead : InFeed) (at place : ℕ) → HasRead fed ahead left → IsEnough ahead → (ahead.is_all ≡ true → may_be_cut v ahead.bytes ≡ false) → may_be_cut v fed ≡ false
-cut_fed v fed left ahead at place read enough not_cut = ⊎_elim
+pub cut_fed : (v : Version) (fed left : List ℕ) (ahead : InFeed) → HasRead fed ahead left → IsEnough ahead → (ahead.is_all ≡ true → may_be_cut v ahead.bytes ≡ false) → may_be_cut v fed ≡ false
+cut_fed v fed left ahead read enough not_cut = ⊎_elim
     (λ (all : ahead.is_all ≡ true). ap (may_be_cut v) (no_more fed left ahead read all) ∙ not_cut all)
     (λ (long : LONGEST ≤ length ahead.bytes). long_is_whole v fed (omega (arith, long, ap (λ (l : List ℕ). length l) read.is, length-append ahead.bytes left))) enough
 
 abbrev end_by : ℕ → Bool → Taken
 end_by at b = cond b (stopped Ends) (stopped (Breaks at))
 
-pub ends_there : (answer : FollowEnd) (v : Version) (fed left : List ℕ) (ahead : InFeed) (at : ℕ) → HasRead fed ahead left → IsEnough ahead → IsUnsealed answer v ahead at → IsFedEnd answer
+pub ends_there : (answer : FollowEnd) (v : Version) (fed left : List ℕ) (ahead : InFeed) (at : ℕ) → HasRead fed ahead left → IsEnough ahead → IsUnsealed answer v ahead at
     → StopsAs answer (cond (may_be_cut v fed) (stopped Ends) (stopped (Breaks at))) left
-ends_there Done v fed left ahead at read enough is kind = record {
-  end = Ends;
-  is = ap (end_by at) (ap (may_be_cut v) (no_more fed left ahead read is.0) ∙ is.1);
-  ends = tt;
-  all = read.all is.0;
-}
-ends_there (Feed place) v fed left ahead at read enough is kind = record {
+ends_there Done v fed left ahead at read enough is = grind (arith, common_steps, no_more)
+ends_there (Feed place) v fed left ahead at read enough is = record {
   end = Breaks at;
-  is = ap (end_by at) (cut_fed v fed left ahead at place read enough is.1);
+  is = ap (end_by at) (cut_fed v fed left ahead read enough is.1);
   ends = is.0;
   all = tt;
 }
-ends_there (Open fault) v fed left ahead at read enough is kind = absurd kind
-ends_there (Diverged index own other) v fed left ahead at read enough is kind = absurd kind
-ends_there SourceFault v fed left ahead at read enough is kind = tt
-ends_there DiskFault v fed left ahead at read enough is kind = tt
-ends_there NoMemory v fed left ahead at read enough is kind = tt
+ends_there _ v fed left ahead at read enough is = absurd is
 
 abbrev pub piece_by : Version → List ℕ → List ℕ → Option Record → Piece
 piece_by v before fed o = elim o as (λ _. Piece) [ None ↦ unsealed v fed | Some r ↦ Sealed (record_size v r - 1) (seal v before (record_text r)) ]
@@ -143,69 +140,14 @@ by_cut false at next = refl
 
 -- none was
 pub no_piece : (answer : FollowEnd) (v : Version) (before fed left : List ℕ) (ahead : InFeed) (at : ℕ) → HasRead fed ahead left → IsEnough ahead → sealed_at v before ahead.bytes ≡ None
-    → IsUnsealed answer v ahead at → IsFedEnd answer → (next : ℕ → List ℕ → Taken) → StopsAs answer (by_piece at (record_piece v before fed) next) left
-no_piece answer v before fed left ahead at read enough none is kind next =
+    → IsUnsealed answer v ahead at → (next : ℕ → List ℕ → Taken) → StopsAs answer (by_piece at (record_piece v before fed) next) left
+no_piece answer v before fed left ahead at read enough none is next =
     let same : by_piece at (record_piece v before fed) next ≡ end_by at (may_be_cut v fed) =
     ap (λ (o : Option Record). by_piece at (piece_by v before fed o) next) (none_read v before fed left ahead read enough none) ∙ by_cut (may_be_cut v fed) at next in
-    subst (λ (t : Taken). StopsAs answer t left) (sym same) (ends_there answer v fed left ahead at read enough is kind)
+    subst (λ (t : Taken). StopsAs answer t left) (sym same) (ends_there answer v fed left ahead at read enough is)
 
 -- what was found is there, and is short
 pub found_fits_there : (v : Version) (before bytes : List ℕ) (r : Record) (size : ℕ) → sealed_at v before bytes ≡ Some r → size ≡ length (record_text r) + seal_size v → size ≤ length bytes
 found_fits_there v before bytes r size found is =
     let stands = (sealed_at-stands v before bytes r found).0 in
     omega (arith, is, ap (λ (l : List ℕ). length l) stands.1, length-append (sealed v before (record_text r)) stands.0, length-sealed v before (record_text r))
-
-pub at_end : (answer : FollowEnd) → IsLookedEnd answer → IsFedEnd answer
-at_end Done kind = tt
-at_end (Feed at) kind = tt
-at_end (Open fault) kind = absurd kind
-at_end (Diverged index own fed) kind = absurd kind
-at_end SourceFault kind = absurd kind
-at_end DiskFault kind = absurd kind
-at_end NoMemory kind = tt
-
--- nothing of the source fails there
-pub looked_no_fault : {T : Type 0} (answer : FollowEnd) → IsLookedEnd answer → (P : Type 0) → (let failed : Result T FollowEnd = Err answer in IsErrOf failed SourceFault) → P
-looked_no_fault Done kind P is = absurd (cc is)
-looked_no_fault (Feed at) kind P is = absurd (cc is)
-looked_no_fault (Open fault) kind P is = absurd kind
-looked_no_fault (Diverged index own fed) kind P is = absurd kind
-looked_no_fault SourceFault kind P is = absurd kind
-looked_no_fault DiskFault kind P is = absurd kind
-looked_no_fault NoMemory kind P is = absurd (cc is)
-
--- as many bytes may be dropped as there are
-pub drop_min : (n : ℕ) (l : List ℕ) (k : ℕ) → k ≡ min n (length l) → drop k l ≡ drop n l
-drop_min n l k is = ⊎_elim
-    (λ (low : n ≤ length l). ap (λ (m : ℕ). drop m l) (let e : k ≡ n = grind (arith, is, low) in e))
-    (λ (high : length l < n). drop_all k l (let e : length l ≤ k = grind (arith, is, high) in e) ∙ sym (drop_all n l (omega (arith, high))))
-    (le_or_lt n (length l))
-  where
-    le_or_lt : (a b : ℕ) → (a ≤ b) ⊎ (b < a)
-    le_or_lt a b = grind arith
-
--- bytes that are filled up
-pub filled_up : (bytes text whole more : List ℕ) (size start count : ℕ) → start ≡ min (length bytes) (length text) → whole ≡ bytes ++ drop start text → count ≡ length whole → size ≡ count + LONGEST_BODY
-    → more ≡ take size whole ++ replicate (size - count) 0 → more ≡ bytes ++ drop (length bytes) text ++ replicate LONGEST_BODY 0
-filled_up bytes text whole more size start count least is many long filled =
-    filled
-    ∙ ap (λ (l : List ℕ). l ++ replicate (size - count) 0) (take_all size whole (omega (arith, long, many)))
-    ∙ ap (λ (k : ℕ). whole ++ replicate k 0) (let e : size - count ≡ LONGEST_BODY = omega (arith, long) in e)
-    ∙ ap (λ (l : List ℕ). l ++ replicate LONGEST_BODY 0) (is ∙ ap (λ (l : List ℕ). bytes ++ l) (drop_min (length bytes) text start least))
-
--- by the first byte
-abbrev text_by : Bool → List ℕ
-text_by b = cond b (codes "D" ++ replicate 22 0) (codes "A" ++ 0 ∷ codes "A" ++ replicate 13 0)
-
-begins_as : (bytes text : List ℕ) (b found : Bool) → 1 ≤ length bytes → text ≡ text_by b → b ≡ starts_with nat_eq bytes (codes "D")
-    → found ≡ is_some (record_at (bytes ++ drop (length bytes) text ++ replicate LONGEST_BODY 0)) → found ≡ may_begin bytes
-begins_as [] text b found some is first begins = absurd (omega (arith, some))
-begins_as (x ∷ bytes) text b found some is first begins =
-    let all : List ℕ = x ∷ bytes in
-    let P : List ℕ → Bool = λ t. is_some (record_at (all ++ drop (length all) t ++ replicate LONGEST_BODY 0)) in
-    begins ∙ ap P is ∙ ap (λ (c : Bool). is_some (record_at (all ++ drop (length all) (text_by c) ++ replicate LONGEST_BODY 0))) first
-
-pub begun_ok : {E : Type 0} (result : Result Bool E) (bytes text : List ℕ) (b : Bool) → 1 ≤ length bytes → text ≡ text_by b → b ≡ starts_with nat_eq bytes (codes "D")
-    → IfOk result (λ found. found ≡ is_some (record_at (bytes ++ drop (length bytes) text ++ replicate LONGEST_BODY 0))) → IfOk result (λ may. may ≡ may_begin bytes)
-begun_ok (Ok found) bytes text b some is first begins = begins_as bytes text b found some is first begins
-begun_ok (Err e) bytes text b some is first begins = tt

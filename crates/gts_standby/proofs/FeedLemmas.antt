@@ -1,9 +1,10 @@
 -- What is left of a feed, record by record.
-use Rattle.std.proofs.Common.{◌≡◌, ℕ, zero, suc, ◌+◌, ◌-◌, ◌<◌, ◌≤◌, Bool, true, false, List, [], ◌∷◌, ◌++◌, length, take, drop, Option, Some, None, Result, Ok, Err, refl, sym, ap, subst, ◌∙◌, arith, length-append, length-drop, ◌==◌}
+use Rattle.std.proofs.Common.{◌≡◌, ℕ, zero, suc, ◌+◌, ◌-◌, ◌<◌, ◌≤◌, Bool, true, false, List, [], ◌∷◌, ◌++◌, length, take, drop, Option, Some, None, Result, Ok, Err, refl, sym, ap, subst, ◌∙◌, arith, length-append, length-drop}
 use Rattle.std.proofs.lemmas.List.{drop-drop, take_at}
-use Rattle.gts_standby.specs.Cited.{Damaged, Directory, Leads, OpenFault, Reaches, Read, Record, State, Version, admits, after, entry_at, event_of_record, feed_at, open_gate, record_size, record_text, records_at, seal, sealed, sealed_at, seals_at}
+use Rattle.gts_standby.specs.Cited.{Damaged, Directory, Leads, OpenFault, Reaches, Record, State, Version, admits, after, entry_at, event_of_record, feed_at, open_gate, record_size, record_text, records_at, seal, sealed, sealed_at, seals_at}
 use Rattle.gts_record.proofs.LawLemmas.{length-sealed, sealed_at-stands}
 use Rattle.gts_journal.proofs.LawLemmas.{at_mark, at_found, was_found, one_back, reads_one, refuses_one, reads_end_there, reads_fault}
+use Rattle.std.proofs.lemmas.Grind.{common_steps}
 
 -- ---- the feed from a gate on
 
@@ -28,15 +29,7 @@ feed_one v n file gate before bytes r is =
 pub feed_none : (v : Version) (n file gate : ℕ) (before bytes : List ℕ) → entry_at v before file gate bytes ≡ Ok None → feed_at v n before bytes ≡ []
 feed_none v zero file gate before bytes is = refl
 feed_none v (suc n) file gate before [] is = refl
-feed_none v (suc n) file gate before (mark ∷ bytes) is = by_mark (mark == open_gate) is
-  where
-    by_mark : (b : Bool) → at_mark v before file gate bytes b ≡ Ok None → feed_of_gate v n before bytes b ≡ []
-    by_mark false is = refl
-    by_mark true is = by_found (sealed_at v before bytes) is
-      where
-        by_found : (o : Option Record) → at_found file gate o ≡ Ok None → feed_of_record v n before bytes o ≡ []
-        by_found None is = refl
-        by_found (Some q) is = absurd (let f : Some q ≡ None = cc is in cc f)
+feed_none v (suc n) file gate before (mark ∷ bytes) is = grind (arith, common_steps, at_mark, at_found)
 
 -- ---- where records come to an end
 
@@ -84,11 +77,7 @@ pub same_record : (r q : Record) (e : Result (Option Record) OpenFault) → e �
 same_record r q e one two = let first : Result (Option Record) OpenFault = Ok (Some r) in let second : Result (Option Record) OpenFault = Ok (Some q) in let both : first ≡ second = sym one ∙ two in cc both
 
 pub no_record : (r : Record) (e : Result (Option Record) OpenFault) → e ≡ Ok None → e ≡ Ok (Some r) → ⊥
-no_record r e one two =
-    let first : Result (Option Record) OpenFault = Ok None in
-    let second : Result (Option Record) OpenFault = Ok (Some r) in
-    let both : first ≡ second = sym one ∙ two in
-    absurd (let none : Option Record = None in let f : none ≡ Some r = cc both in cc f)
+no_record r e one two = grind (arith, common_steps)
 
 pub goes_on : (v : Version) (d : Directory) (file : ℕ) (before : List ℕ) (gate : ℕ) (bytes : List ℕ) (end : ℕ) (left : List ℕ) (r : Record) → Reaches v d file before gate bytes end left
     → entry_at v before file gate (drop gate bytes) ≡ Ok (Some r) → GoesOn v d file before gate bytes end left r
@@ -121,16 +110,7 @@ goes_on v d file before gate bytes end left r it found =
 -- in front of the end a record stands behind the gate
 pub no_end : (v : Version) (d : Directory) (file : ℕ) (before : List ℕ) (gate : ℕ) (bytes : List ℕ) (end : ℕ) (left : List ℕ) → Reaches v d file before gate bytes end left → gate < end
     → entry_at v before file gate (drop gate bytes) ≡ Ok None → ⊥
-no_end v d file before gate bytes end left it low found =
-    let x : State × ℕ × List ℕ = (it.then, end + 1, it.last) in
-    let some = some_step v d it.steps file before it.state gate (drop gate bytes) x it.opens in
-    let first = subst (λ (k : ℕ). records_at v d k file before it.state gate (drop gate bytes) ≡ Ok x) some.1 it.opens in
-    let first_end : Read = Ok (it.state, gate + 1, before) in
-    let second_end : Read = Ok x in
-    let e : first_end ≡ second_end = sym (reads_end_there v d some.0 file before it.state gate (drop gate bytes) found) ∙ first in
-    let both : (it.state, gate + 1, before) ≡ x = cc e in
-    let same : gate + 1 ≡ end + 1 = ap (λ (y : State × ℕ × List ℕ). y.1) both in
-    omega (arith, same, low)
+no_end v d file before gate bytes end left it low found = grind (arith, common_steps, some_step, reads_end_there)
 
 pub no_fault : (v : Version) (d : Directory) (file : ℕ) (before : List ℕ) (gate : ℕ) (bytes : List ℕ) (end : ℕ) (left : List ℕ) (fault : OpenFault) → Reaches v d file before gate bytes end left
     → entry_at v before file gate (drop gate bytes) ≡ Err fault → ⊥
@@ -195,16 +175,7 @@ seals_one v n file gate before bytes r is =
 pub seals_none : (v : Version) (n file gate : ℕ) (before bytes : List ℕ) → entry_at v before file gate bytes ≡ Ok None → seals_at v n before bytes ≡ []
 seals_none v zero file gate before bytes is = refl
 seals_none v (suc n) file gate before [] is = refl
-seals_none v (suc n) file gate before (mark ∷ bytes) is = by_mark (mark == open_gate) is
-  where
-    by_mark : (b : Bool) → at_mark v before file gate bytes b ≡ Ok None
-        → elim b as (λ _. List (List ℕ)) [ false ↦ [] | true ↦ seals_of_record v n before bytes (sealed_at v before bytes) ] ≡ []
-    by_mark false is = refl
-    by_mark true is = by_found (sealed_at v before bytes) is
-      where
-        by_found : (o : Option Record) → at_found file gate o ≡ Ok None → seals_of_record v n before bytes o ≡ []
-        by_found None is = refl
-        by_found (Some q) is = absurd (let f : Some q ≡ None = cc is in cc f)
+seals_none v (suc n) file gate before (mark ∷ bytes) is = grind (arith, common_steps, at_mark, at_found)
 
 -- behind the gate's record the seals of the others are left
 pub record LeadsOn (v : Version) (d : Directory) (file : ℕ) (before : List ℕ) (gate : ℕ) (bytes : List ℕ) (end : ℕ) (left : List (List ℕ)) (r : Record) : Type 0 where

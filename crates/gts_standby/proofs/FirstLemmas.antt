@@ -1,6 +1,6 @@
 -- How a feed begins.
 use Rattle.std.proofs.Common.{◌≡◌, ℕ, ◌+◌, ◌-◌, ◌*◌, ◌≤◌, Bool, true, false, cond, ◌&&◌, nat_eq, nat_le, List, [], ◌∷◌, ◌++◌, length, take, drop, Option, Some, None, Result, Ok, Err, inl, inr, refl, sym, ap, subst, ◌∙◌, arith, append_assoc, length-append, length-drop, take-append-drop, IfErr, OnOk, not}
-use Rattle.gts_standby.specs.Cited.{Call, Damaged, Did, Directory, GoesOnBehind, InHand, IsAnswer, IsAtFirst, IsAtGate, IsDamage, IsFaultOf, IsQuiet, IsShipFault, Need, OnlySyncs, OnlySyncsUnopened, OpenFault, Opened, Reaches, Read, SaysFront, SaysHere, SaysOnly, SaysRest, ShipFault, ShipsOnly, StandsFor, StandsOn, State, Syncs, Version, admits_checkpoint, agreeing, begun, behind_header, checkpoint_feed, checkpoint_opens, checkpoint_text, compacted_bytes, draw_size, due, empty, feed, feed_at, feed_behind, feed_of, file_of, file_opens, files_read, first_fault, first_seal, header_fault, is_at_checkpoint, is_checkpoint, is_sealed, is_sound, magic, need, need_in, on, opened_of, opens, records_at, restarted, same_text, seal, sealed, seen, selected, selected_bytes, ship_fault, starts_with, written}
+use Rattle.gts_standby.specs.Cited.{Call, Damaged, Did, Directory, Files, GoesOnBehind, HasOpened, InHand, IsAtFirst, IsAtGate, IsDamage, IsFaultOf, IsQuiet, IsShipFault, Need, OnlySyncs, OnlySyncsUnopened, OpenFault, Reaches, Read, SaysFront, SaysHere, SaysOnly, SaysRest, ShipFault, ShipsOnly, StandsFor, StandsOn, State, Syncs, Version, admits_checkpoint, agreeing, begun, behind_header, checkpoint_feed, checkpoint_opens, checkpoint_text, compacted_bytes, draw_size, due, empty, feed, feed_at, feed_behind, feed_of, file_of, file_opens, files_read, first_fault, first_seal, header_fault, is_at_checkpoint, is_checkpoint, is_sealed, is_sound, magic, need, need_in, on, opens, records_at, restarted, same_text, seal, sealed, seen, selected, selected_bytes, ship_fault, starts_with, written}
 use Rattle.gts_traits.specs.Cited.{Broken}
 use Rattle.gts_checkpoint.specs.Reading.{HasRead}
 use Rattle.std.proofs.lemmas.Bool.{and_parts}
@@ -11,6 +11,7 @@ use Rattle.gts_record.proofs.LawLemmas.{length-sealed}
 use Rattle.gts_journal.proofs.LawLemmas.{faulty_header, opens_behind}
 use Rattle.gts_standby.specs.declared.fault.ShipFault.TheVariants as fault
 use Rattle.gts_standby.proofs.SayLemmas.{says_more, fronts_behind, fronts_more}
+use Rattle.std.proofs.lemmas.Grind.{common_steps}
 
 -- ---- the header
 
@@ -81,21 +82,12 @@ by_admission v d file bytes n b = elim b as (λ _. Read) [
 -- a journal whose file opens has no damage in its checkpoint
 pub no_damage : (d : Directory) (calls : List Call) (j : InHand) (end : ℕ) → IsAtFirst d calls j end → is_at_checkpoint j ≡ true
     → admits_checkpoint j.version d (drop 41 (file_of calls j)) (need_in (drop 41 (file_of calls j))) ≡ false → ⊥
-no_damage d calls j end first packed bad =
-    let bytes : List ℕ = file_of calls j in
-    let damage : Read = Err (Damaged j.file 41) in
-    let opened : Read = Ok (first.then, end + 1, first.last) in
-    let e : damage ≡ opened =
-    sym (ap (by_admission j.version d j.file bytes (need_in (drop 41 bytes))) bad) ∙ sym (opens_behind j.version d j.file bytes true first.header (first.letter ∙ packed)) ∙ first.opens in
-    absurd (cc e)
+no_damage d calls j end first packed bad = grind (arith, common_steps, opens_behind)
 
 pub quiet_read : (v : Version) (d : Directory) (file : ℕ) (bytes : List ℕ) (e : OpenFault) → IsDamage v d file bytes e → (admits_checkpoint v d bytes (need_in bytes) ≡ false → ⊥) → IsQuiet (ship_fault e)
 quiet_read v d file bytes opening.DiskFault is none = tt
 quiet_read v d file bytes opening.NoMemory is none = tt
-quiet_read v d file bytes opening.NoJournal is none = none is.1
-quiet_read v d file bytes opening.OldVersion is none = none is.1
-quiet_read v d file bytes (opening.NotThis want found) is none = none is.1
-quiet_read v d file bytes (opening.Damaged k at) is none = none is.1
+quiet_read v d file bytes _ is none = none is.1
 
 -- of what is sent behind the header the checkpoint stands first
 pub checkpoint_first : (d : Directory) (calls : List Call) (j : InHand) (end : ℕ) (n : Need) (last : List ℕ) (gate : ℕ) → IsAtFirst d calls j end → is_at_checkpoint j ≡ true
@@ -187,21 +179,10 @@ pub at_start : (d : Directory) (mid new : List Call) (opened j : InHand) (s : St
 at_start d mid new opened j s mark second stands current ours gate version last on_it sound letter =
     at_opened d mid new j s mark opened.gate opened.seal second (read_to d mid opened s stands current) ours gate version last on_it sound letter
 
-pub at_first : (d : Directory) (old mid new : List Call) (opened j : InHand) (s : State) (mark : List ℕ) → mid ≡ Did Syncs ∷ old → new ≡ Did Syncs ∷ mid → StandsFor d s mid opened → opened.version ≡ written
-    → mark ≡ d.mark → j.gate ≡ 40 → j.version ≡ written → j.seal ≡ first_seal j.version mark → StandsOn new j → first_fault mark (seen mid) ≡ None → is_checkpoint (file_of new j) ≡ is_at_checkpoint j
-    → IsAtFirst d new j opened.gate
-at_first d old mid new opened j s mark first second stands current ours gate version last on_it sound letter =
-    at_start d mid new opened j s mark second stands current ours gate version last on_it sound letter
-
 -- files that open have no fault in the header
 pub no_fault_where : (d : Directory) (mid : List Call) (x : State × ℕ × List ℕ) (mark : List ℕ) (f : OpenFault) → files_read written d (seen mid) ≡ Ok x → mark ≡ d.mark
     → first_fault mark (seen mid) ≡ Some f → ⊥
-no_fault_where d mid x mark f opens_to ours is =
-    let there : header_fault written d.mark (selected (seen mid)) (selected_bytes (seen mid)) ≡ Some f = ap (λ (l : List ℕ). header_fault written l (selected (seen mid)) (selected_bytes (seen mid))) (sym ours) ∙ is in
-    let one : Read = Err f in
-    let two : Read = Ok x in
-    let e : one ≡ two = sym (faulty_header written d (selected (seen mid)) (selected_bytes (seen mid)) f there) ∙ opens_to in
-    absurd (cc e)
+no_fault_where d mid x mark f opens_to ours is = grind (arith, common_steps, faulty_header)
 
 pub no_header_fault : (d : Directory) (mid : List Call) (opened : InHand) (s : State) (mark : List ℕ) (f : OpenFault) → StandsFor d s mid opened → opened.version ≡ written → mark ≡ d.mark
     → first_fault mark (seen mid) ≡ Some f → ⊥
@@ -217,9 +198,7 @@ quiet_start (opening.Damaged file at) found is none = none (opening.Damaged file
 
 -- one sync said nothing, and touched no file
 pub synced_quiet : (old mid : List Call) → mid ≡ Did Syncs ∷ old → SaysOnly old mid []
-synced_quiet old mid first =
-    subst (λ (calls : List Call). SaysOnly old calls []) (sym first)
-    (record { said = (said_none old).said; files = λ file. refl; untouched = untouched_call old (Did Syncs ∷ old) (Did Syncs) tt refl })
+synced_quiet old mid first = grind (arith, common_steps, said_none, untouched_call)
 
 -- nor did one that was tried
 pub syncs_say_nothing : (old new : List Call) → OnlySyncs old new → SaysOnly old new []
@@ -232,20 +211,10 @@ syncs_say_nothing old new (inr (inr left)) =
 nothing_front : (old new : List Call) (x : List ℕ) → SaysOnly old new [] → SaysFront old new (on 0 x)
 nothing_front old new x says = record { left = []; front = (on 0 x, refl); said = says }
 
-pub open_answer : (d : Directory) (old new : List Call) (e : OpenFault) (x : List ℕ) → OnlySyncs old new → IsAnswer e (opens d (seen old)) → IsShipFault (ship_fault e) d old new x
-open_answer d old new opening.DiskFault x syncs is = inl syncs
-open_answer d old new opening.NoMemory x syncs is = inl syncs
-open_answer d old new opening.NoJournal x syncs is = (is, syncs)
-open_answer d old new opening.OldVersion x syncs is = (is, syncs)
-open_answer d old new (opening.NotThis want found) x syncs is = (is, syncs)
-open_answer d old new (opening.Damaged file at) x syncs is = (is, syncs)
-
 -- behind a sync a quiet fault is answered with a front of what was to be said
-pub quiet_answer : (d : Directory) (old mid new : List Call) (e : ShipFault) (x : List ℕ) → mid ≡ Did Syncs ∷ old → IsQuiet e → SaysFront mid new (on 0 x) → IsShipFault e d old new x
-quiet_answer d old mid new (fault.Open f) x first quiet says = absurd quiet
-quiet_answer d old mid new fault.DiskFault x first quiet says = inr (subst (λ (calls : List Call). SaysFront calls new (on 0 x)) first says)
-quiet_answer d old mid new fault.SayFault x first quiet says = inr (subst (λ (calls : List Call). SaysFront calls new (on 0 x)) first says)
-quiet_answer d old mid new fault.NoMemory x first quiet says = inr (subst (λ (calls : List Call). SaysFront calls new (on 0 x)) first says)
+pub quiet_answer : (d : Directory) (old new : List Call) (e : ShipFault) (x : List ℕ) → IsQuiet e → SaysFront (Did Syncs ∷ old) new (on 0 x) → IsShipFault e d old new x
+quiet_answer d old new (fault.Open f) x quiet says = absurd quiet
+quiet_answer d old new _ x quiet says = inr says
 
 -- what follows a sync follows what was before it
 pub behind_sync : (old mid new : List Call) (x : List ℕ) → SaysOnly old mid [] → SaysOnly mid new (on 0 x) → SaysOnly old new (on 0 x)
@@ -255,27 +224,18 @@ pub front_behind_sync : (old mid new : List Call) (x : List ℕ) → SaysOnly ol
 front_behind_sync old mid new x first second = front_behind old mid new [] (on 0 x) first second
 
 -- the need that files open to
-pub opens_there : (d : Directory) (mid : List Call) (opened : InHand) (s : State) → StandsFor d s mid opened → opened.version ≡ written → opens d (seen mid) ≡ Ok (need d (restarted d s))
-opens_there d mid opened s stands current =
-    let opens_to : files_read written d (seen mid) ≡ Ok (s, opened.gate + 1, opened.seal) = ap (λ (v : Version). files_read v d (seen mid)) (sym current) ∙ stands.opens_to in
-    ap (λ (r : Read). by_opened (opened_of r)) opens_to
-  where
-    by_opened : Opened → Result Need OpenFault
-    by_opened o = elim o as (λ _. Result Need OpenFault) [ Err f ↦ Err f | Ok x ↦ Ok (need d (restarted d x.0)) ]
+pub opens_read : (d : Directory) (calls : List Call) (x : State × ℕ × List ℕ) → files_read written d (seen calls) ≡ Ok x → opens d (seen calls) ≡ Ok (need d (restarted d x.0))
+opens_read d calls x is = grind (arith, common_steps)
+
+-- files that read to something don't open to a fault
+pub never_unopened : (d : Directory) (old new : List Call) (x : State × ℕ × List ℕ) → files_read written d (seen old) ≡ Ok x → OnlySyncsUnopened d old new
+never_unopened d old new x reads fault is = grind (arith, common_steps, opens_read)
 
 -- ---- the whole
 
 -- what was said leaves a journal at its first gate
 pub first_later : (d : Directory) (old new : List Call) (j : InHand) (end : ℕ) → file_of new j ≡ file_of old j → IsAtFirst d old j end → IsAtFirst d new j end
-first_later d old new j end same first = record {
-  gate = first.gate;
-  seal_is = first.seal_is;
-  header = ap (header_fault j.version d.mark j.file) same ∙ first.header;
-  letter = ap is_checkpoint same ∙ first.letter;
-  then = first.then;
-  last = first.last;
-  opens = ap (file_opens j.version d j.file) same ∙ first.opens;
-}
+first_later d old new j end same first = grind (arith, common_steps)
 
 same_behind : (d : Directory) (old new : List Call) (j : InHand) → file_of new j ≡ file_of old j → behind_header d new j ≡ behind_header d old j
 same_behind d old new j same = ap (λ (l : List ℕ). feed_behind j.version (first_seal j.version d.mark) l (is_checkpoint l)) same
@@ -283,10 +243,7 @@ same_behind d old new j same = ap (λ (l : List ℕ). feed_behind j.version (fir
 -- header, checkpoint and records are the feed
 pub said_feed : {T : Type 0} (result : Result T ShipFault) (d : Directory) (old mid behind new : List Call) (j next : InHand) (end : ℕ) → SaysHere old mid (take 40 (file_of old j))
     → (first : GoesOnBehind d mid behind next end (behind_header d mid j)) → SaysRest result behind new first.rest → SaysRest result old new (feed j.version d.mark (file_of old j))
-said_feed (Ok x) d old mid behind new j next end header first rest =
-    let tail = subst (SaysHere mid new) (sym first.is) (says_more mid behind new first.piece first.rest first.says rest) in
-    let there = subst (SaysHere mid new) (same_behind d old mid j (header.only.files j.file)) tail in
-    says_more old mid new (take 40 (file_of old j)) (behind_header d old j) header there
+said_feed (Ok x) d old mid behind new j next end header first rest = grind (arith, common_steps, says_more, same_behind)
 said_feed (Err e) d old mid behind new j next end header first rest =
     let tail = subst (λ (l : List ℕ). SaysFront mid new (on 0 l)) (sym first.is) (fronts_behind mid behind new first.piece first.rest first.says rest.1) in
     let there = subst (λ (l : List ℕ). SaysFront mid new (on 0 l)) (same_behind d old mid j (header.only.files j.file)) tail in
@@ -294,62 +251,45 @@ said_feed (Err e) d old mid behind new j next end header first rest =
 
 pub broken_feed : (d : Directory) (old mid new : List Call) (j : InHand) → SaysHere old mid (take 40 (file_of old j)) → SaysFront mid new (on 0 (behind_header d mid j))
     → SaysFront old new (on 0 (feed j.version d.mark (file_of old j)))
-broken_feed d old mid new j header tail =
-    let there = subst (λ (l : List ℕ). SaysFront mid new (on 0 l)) (same_behind d old mid j (header.only.files j.file)) tail in
-    fronts_behind old mid new (take 40 (file_of old j)) (behind_header d old j) header there
+broken_feed d old mid new j header tail = grind (arith, common_steps, same_behind, fronts_behind)
 
--- what is said of the file that was started is the feed of the files
-pub same_feed : (d : Directory) (old mid new : List Call) (j : InHand) → mid ≡ Did Syncs ∷ old → new ≡ Did Syncs ∷ mid → j.version ≡ written → StandsOn new j → feed j.version d.mark (file_of new j) ≡ feed_of d old
-same_feed d old mid new j first second version stands =
-    let place : selected (seen old) ≡ j.file =
-    ap (λ (calls : List Call). selected (seen calls)) (sym first) ∙ ap (λ (calls : List Call). selected (seen calls)) (sym second) ∙ stands.selected_is in
-    let bytes : file_of new j ≡ selected_bytes (seen old) =
-    ap (λ (calls : List Call). seen calls j.file) second ∙ ap (λ (calls : List Call). seen calls j.file) first ∙ ap (seen old) (sym place) in
-    ap (λ (v : Version). feed v d.mark (file_of new j)) version ∙ ap (feed written d.mark) bytes
+-- what stands in the file that was started stands in the files
+pub same_file : (d : Directory) (old new : List Call) (j : InHand) → seen new ≡ seen old → StandsOn new j → file_of new j ≡ selected_bytes (seen old)
+same_file d old new j same stands = ap (λ (files : Files). files j.file) same ∙ ap (seen old) (sym (ap (λ (files : Files). selected files) (sym same) ∙ stands.selected_is))
 
--- behind the sync of the opening, and calls that said nothing, this was said of a journal that opens
-pub says_opened : {T : Type 0} (result : Result T ShipFault) (d : Directory) (old mid now new : List Call) (n : Need) (x : List ℕ) → opens d (seen old) ≡ Ok n → mid ≡ Did Syncs ∷ old → SaysOnly mid now [] → SaysRest result now new x
-    → OnOk result (ShipsOnly d old new x)
-says_opened (Ok y) d old mid now new n x opened first quiet says = record {
-  need = n;
-  opened = opened;
-  said = subst (λ (calls : List Call). SaysOnly calls new (on 0 x)) first (behind_sync mid now new x quiet says.only);
+-- and what is said of it is the feed of the files
+pub same_feed : (d : Directory) (old new : List Call) (j : InHand) → seen new ≡ seen old → j.version ≡ written → StandsOn new j → feed j.version d.mark (file_of new j) ≡ feed_of d old
+same_feed d old new j same version stands = ap (λ (v : Version). feed v d.mark (file_of new j)) version ∙ ap (feed written d.mark) (same_file d old new j same stands)
+
+-- the second sync said nothing
+pub second_quiet : (d : Directory) (old now : List Call) (j : InHand) (end : ℕ) → HasOpened d old now j end → SaysOnly (Did Syncs ∷ old) now []
+second_quiet d old now j end h = synced_quiet (Did Syncs ∷ old) now h.synced
+
+-- behind the opening, and calls that said nothing, this was said
+pub says_opened : {T : Type 0} (result : Result T ShipFault) (d : Directory) (old now later new : List Call) (j : InHand) (end : ℕ) (x : List ℕ) → HasOpened d old now j end → SaysOnly (Did Syncs ∷ old) later []
+    → SaysRest result later new x → OnOk result (ShipsOnly d old new x)
+says_opened (Ok y) d old now later new j end x h quiet says = record {
+  need = need d (restarted d h.state);
+  opened = opens_read d old (h.state, end + 1, h.last) h.reads;
+  said = behind_sync (Did Syncs ∷ old) later new x quiet says.only;
 }
-says_opened (Err e) d old mid now new n x opened first quiet says = tt
+says_opened (Err e) d old now later new j end x h quiet says = tt
 
-pub breaks_opened : {T : Type 0} (result : Result T ShipFault) (d : Directory) (old mid now new : List Call) (x : List ℕ) → mid ≡ Did Syncs ∷ old → SaysOnly mid now [] → SaysRest result now new x
+pub breaks_opened : {T : Type 0} (result : Result T ShipFault) (d : Directory) (old later new : List Call) (x : List ℕ) → SaysOnly (Did Syncs ∷ old) later [] → SaysRest result later new x
     → IfErr result (λ e. IsShipFault e d old new x)
-breaks_opened (Ok y) d old mid now new x first quiet says = tt
-breaks_opened (Err e) d old mid now new x first quiet says = quiet_answer d old mid new e x first says.0 (front_behind_sync mid now new x quiet says.1)
+breaks_opened (Ok y) d old later new x quiet says = tt
+breaks_opened (Err e) d old later new x quiet says = quiet_answer d old new e x says.0 (front_behind_sync (Did Syncs ∷ old) later new x quiet says.1)
 
 -- nothing was said where a device failed
-pub failed_quietly : (d : Directory) (old mid new : List Call) (e : ShipFault) (x : List ℕ) → mid ≡ Did Syncs ∷ old → SaysOnly mid new [] → IsQuiet e → IsShipFault e d old new x
-failed_quietly d old mid new e x first quiet kind = quiet_answer d old mid new e x first kind (nothing_front mid new x quiet)
+pub failed_quietly : (d : Directory) (old new : List Call) (e : ShipFault) (x : List ℕ) → SaysOnly (Did Syncs ∷ old) new [] → IsQuiet e → IsShipFault e d old new x
+failed_quietly d old new e x quiet kind = quiet_answer d old new e x kind (nothing_front (Did Syncs ∷ old) new x quiet)
 
 -- nothing was said where the journal wasn't started
-pub not_started : (d : Directory) (old mid now new : List Call) (e : ShipFault) (x : List ℕ) → mid ≡ Did Syncs ∷ old → SaysOnly mid now [] → OnlySyncs now new → IsQuiet e → IsShipFault e d old new x
-not_started d old mid now new e x first quiet syncs kind =
-    quiet_answer d old mid new e x first kind (front_behind_sync mid now new x quiet (nothing_front now new x (syncs_say_nothing now new syncs)))
+pub not_started : (d : Directory) (old now new : List Call) (e : ShipFault) (x : List ℕ) → SaysOnly (Did Syncs ∷ old) now [] → OnlySyncs now new → IsQuiet e → IsShipFault e d old new x
+not_started d old now new e x quiet syncs kind =
+    quiet_answer d old new e x kind (front_behind_sync (Did Syncs ∷ old) now new x quiet (nothing_front now new x (syncs_say_nothing now new syncs)))
 
--- the need of files that open
-pub opened_to : (d : Directory) (old mid : List Call) (opened : InHand) (s : State) → mid ≡ Did Syncs ∷ old → StandsFor d s mid opened → opened.version ≡ written → opens d (seen old) ≡ Ok (need d (restarted d s))
-opened_to d old mid opened s first for current = ap (λ (calls : List Call). opens d (seen calls)) (sym first) ∙ opens_there d mid opened s for current
-
--- so the files don't open to a fault
-pub never_unopened : (d : Directory) (old mid new : List Call) (opened : InHand) (s : State) → mid ≡ Did Syncs ∷ old → StandsFor d s mid opened → opened.version ≡ written → OnlySyncsUnopened d old new
-never_unopened d old mid new opened s first for current fault is =
-    let failed : Result Need OpenFault = Err fault in
-    let found : Result Need OpenFault = Ok (need d (restarted d s)) in
-    let e : failed ≡ found = sym is ∙ opened_to d old mid opened s first for current in
-    absurd (cc e)
-
-pub ships_on : {T : Type 0} (result : Result T ShipFault) (d : Directory) (old mid now new : List Call) (j opened : InHand) (s : State) → mid ≡ Did Syncs ∷ old → now ≡ Did Syncs ∷ mid → j.version ≡ written → StandsOn now j
-    → StandsFor d s mid opened → opened.version ≡ written → SaysRest result now new (feed j.version d.mark (file_of now j)) → OnOk result (ShipsOnly d old new (feed_of d old))
-ships_on result d old mid now new j opened s first second version stands for current says =
-    says_opened result d old mid now new (need d (restarted d s)) (feed_of d old) (opened_to d old mid opened s first for current) first (synced_quiet mid now second)
-    (subst (SaysRest result now new) (same_feed d old mid now j first second version stands) says)
-
-pub breaks_on : {T : Type 0} (result : Result T ShipFault) (d : Directory) (old mid now new : List Call) (j : InHand) → mid ≡ Did Syncs ∷ old → now ≡ Did Syncs ∷ mid → j.version ≡ written → StandsOn now j
-    → SaysRest result now new (feed j.version d.mark (file_of now j)) → IfErr result (λ e. IsShipFault e d old new (feed_of d old))
-breaks_on result d old mid now new j first second version stands says =
-    breaks_opened result d old mid now new (feed_of d old) first (synced_quiet mid now second) (subst (SaysRest result now new) (same_feed d old mid now j first second version stands) says)
+-- the feed of a journal that was opened
+pub says_feed : {T : Type 0} (result : Result T ShipFault) (d : Directory) (old now new : List Call) (j : InHand) (end : ℕ) → HasOpened d old now j end
+    → SaysRest result now new (feed j.version d.mark (file_of now j)) → SaysRest result now new (feed_of d old)
+says_feed result d old now new j end h says = subst (SaysRest result now new) (same_feed d old now j (ap (λ (calls : List Call). seen calls) h.synced) h.version h.stands) says

@@ -13,6 +13,7 @@ use Rattle.gts_standby.proofs.AddLemmas.{added_by, not_empty, some_text, no_begi
 use Rattle.gts_standby.proofs.PutLemmas.{behind_it, begins_so, checkpoint_there}
 use Rattle.gts_standby.proofs.FeedLemmas.{seals_one}
 use Rattle.gts_standby.proofs.TakeLemmas.{sound_header, stays, add_ends}
+use Rattle.std.proofs.lemmas.Grind.{common_steps}
 
 -- ---- records that are added
 
@@ -105,25 +106,11 @@ piece_more v before p more size last is = by_sealed (sealed_at v before p) refl 
 
 -- the bytes at a place are those of the whole
 head_more : (text p more : List ℕ) (at : ℕ) → at + length text ≤ length p → or_else text p at ≡ or_else text (p ++ more) at
-head_more text p more at long =
-    let front : InFeed = record { bytes = p; is_all = false } in
-    or_else_read text (p ++ more) more front at (record { is = refl; all = λ e. absurd (cc e) }) (inr long)
+head_more text p more at long = grind (arith, common_steps, or_else_read)
 
 -- a place that is reached in a front is reached in the whole
 reach_more : (limit : ℕ) (p more : List ℕ) (at size k : ℕ) → reach limit p at size ≡ Behind k → (reach limit (p ++ more) at size ≡ Behind k) × (at + size ≤ length p)
-reach_more limit p more at size k is = by_far (nat_lt limit (at + size)) refl is
-  where
-    by_short : (b : Bool) → nat_lt limit (at + size) ≡ false → nat_lt (length p) (at + size) ≡ b → cond b Short (Behind (at + size)) ≡ Behind k
-        → (reach limit (p ++ more) at size ≡ Behind k) × (at + size ≤ length p)
-    by_short true far few e = absurd (cc e)
-    by_short false far few e =
-        let there : at + size ≤ length p = ltb-false (length p) (at + size) few in
-        (reach_on limit (p ++ more) at size (ltb-false limit (at + size) far) (omega (arith, there, length-append p more)) ∙ e, there)
-
-    by_far : (b : Bool) → nat_lt limit (at + size) ≡ b → cond b Bad (cond (nat_lt (length p) (at + size)) Short (Behind (at + size))) ≡ Behind k
-        → (reach limit (p ++ more) at size ≡ Behind k) × (at + size ≤ length p)
-    by_far true far e = absurd (cc e)
-    by_far false far e = by_short (nat_lt (length p) (at + size)) far refl e
+reach_more limit p more at size k is = grind (arith, common_steps, ltb-false, reach_on)
 
 bulletin_more : (limit : ℕ) (p more : List ℕ) (at k : ℕ) → behind_bulletin limit p at ≡ Behind k → behind_bulletin limit (p ++ more) at ≡ Behind k
 bulletin_more limit p more at k is = by_size (bulletin_size (or_else least_bulletin p at)) refl is
@@ -173,15 +160,7 @@ counted_more limit p more bulletins circuits k is =
     )) is
 
 front_there : (limit : ℕ) (p : List ℕ) (bulletins circuits k : ℕ) → behind_counted limit p bulletins circuits ≡ Behind k → 20 ≤ length p
-front_there limit p bulletins circuits k is = by_front (reach limit p 0 20) refl is
-  where
-    rest : ℕ → Reached
-    rest at = and_then (behind_all (behind_bulletin limit p) bulletins at) (λ behind. behind_all (behind_circuit limit p) circuits behind)
-
-    by_front : (r : Reached) → reach limit p 0 20 ≡ r → and_then r rest ≡ Behind k → 20 ≤ length p
-    by_front Short e is = absurd (cc is)
-    by_front Bad e is = absurd (cc is)
-    by_front (Behind j) e is = let on = reach_more limit p [] 0 20 j e in omega (arith, on.1)
+front_there limit p bulletins circuits k is = grind (arith, common_steps, reach_more)
 
 reached_more : (limit : ℕ) (p more : List ℕ) (k : ℕ) → behind_checkpoint limit p ≡ Behind k → behind_checkpoint limit (p ++ more) ≡ Behind k
 reached_more limit p more k is = by_letter (starts_with nat_eq (or_else least_front p 0) (codes "C" ++ replicate 3 0)) refl is

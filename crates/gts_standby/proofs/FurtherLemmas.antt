@@ -1,8 +1,10 @@
 -- Whether a journal may begin anew with the checkpoint of a feed.
-use Rattle.std.proofs.Common.{◌≡◌, ℕ, Bool, false, List, [], ◌∷◌, Some, None, refl, sym, ap, ◌∙◌, not, ◌||◌, map, nat_lt, zip}
+use Rattle.std.proofs.Common.{◌≡◌, ℕ, Bool, false, List, [], ◌∷◌, Some, None, refl, sym, ap, not, ◌||◌, map, nat_lt, zip}
 use Rattle.gts_standby.specs.Cited.{Breaks, Directory, FindsFurther, HasRead, InFeed, Need, State, Taken, begun_taken, circuit_need_of, is_behind, is_further, list_any, need, stopped}
 use Rattle.gts_event.specs.declared.values.CircuitNeed.{CircuitNeed}
 use Rattle.gts_standby.proofs.FrontLemmas.{further_by}
+use Rattle.std.proofs.lemmas.Grind.{common_steps}
+use Rattle.std.proofs.Common.{arith}
 
 nothing_further : (d : Directory) (s : State) (t : Taken) → t.begins ≡ None → false ≡ is_further d s t
 nothing_further d s t none = sym (ap (further_by d s) none)
@@ -14,8 +16,7 @@ none_further d s fed ahead left is = (nothing_further d s (begun_taken d fed) (a
 -- one was, and is behind or isn't
 pub some_further : (d : Directory) (s : State) (fed : List ℕ) (ahead : InFeed) (left : List ℕ) (n own : Need) (behind : Bool) → (begun_taken d fed).begins ≡ Some n → own ≡ need d s → behind ≡ is_behind n own
     → HasRead fed ahead left → FindsFurther (not behind) d s fed ahead left
-some_further d s fed ahead left n own behind begins own_is is read =
-    (ap not (is ∙ ap (is_behind n) own_is) ∙ sym (ap (further_by d s) begins), λ _. read)
+some_further d s fed ahead left n own behind begins own_is is read = grind (arith, common_steps, further_by)
 
 -- ---- on a circuit
 

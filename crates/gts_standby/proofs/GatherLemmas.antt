@@ -1,13 +1,14 @@
 -- Records of a feed are gathered behind a journal, and brought into it.
 use Rattle.std.proofs.Common.{◌≡◌, inl, inr, ℕ, ◌+◌, ◌<◌, ◌≤◌, Bool, true, cond, List, [], ◌∷◌, ◌++◌, length, Option, Some, refl, sym, ap, subst, ◌∙◌, arith, length-append}
 use Rattle.std.proofs.lemmas.List.{map-append}
-use Rattle.gts_standby.specs.Cited.{AreNext, Breaks, Call, CanGather, Core, Directory, Ends, Feed, Gathered, Gathering, Gathers, HasAppendedBlock, HasBrought, HasGatheredOne, HoldsAt, HoldsBehind, InFeed, InHand, IsBlock, IsGathered, IsGathering, IsJudged, IsKept, MayBring, MayHaveBrought, ReadsToOneOf, Record, StandsBehind, StandsFor, State, StopsAs, Version, admits, after, after_records, beyond_block, chain_text, closed_gate, event_of_record, gate_behind, held, last_seal, may_be_cut, no_records, open_gate, read_at, read_with, record_size, record_text, seal, sealed, sealed_at, stopped, texts_of, written}
+use Rattle.gts_standby.specs.Cited.{AreNext, Breaks, Call, CanGather, Core, Directory, Ends, Feed, Gathered, Gathering, Gathers, HasAppendedBlock, HasBrought, HasGatheredOne, HoldsAt, HoldsBehind, InFeed, InHand, IsBlock, IsGathered, IsGathering, IsJudged, IsKept, MayBring, MayHaveBrought, ReadsToOneOf, Record, StandsBehind, StandsFor, State, StopsAs, Version, admits, after, after_records, beyond_block, chain_text, closed_gate, event_of_record, gate_behind, held, may_be_cut, no_records, read_at, read_with, record_size, record_text, seal, sealed_at, stopped, texts_of, written}
 use Rattle.gts_traits.proofs.LawLemmas.{started}
 use Rattle.gts_record.proofs.LawLemmas.{last_seal-append}
 use Rattle.gts_journal.proofs.LawLemmas.{gathered_block, records_more, next_none, next_more, batch_stands}
 use Rattle.gts_recovery.proofs.KeptLemmas.{kept_on}
 use Rattle.gts_standby.proofs.AddLemmas.{whole_uncut}
 use Rattle.gts_standby.proofs.ReadLemmas.{images_read}
+use Rattle.std.proofs.lemmas.Grind.{common_steps}
 
 -- ---- what was gathered
 
@@ -18,10 +19,7 @@ long_some before rs b g = omega (arith, ap length g.text, length-append (chain_t
 -- a batch with no more than that has no record
 pub none_gathered : (before : List ℕ) (rs : List Record) (b : Gathered) → Gathers before rs b → length b.text ≡ 1 → rs ≡ []
 none_gathered before [] b g one = refl
-none_gathered before (r ∷ rs) b g one =
-    let front : List ℕ = open_gate ∷ sealed b.version before (record_text r) in
-    let rest : List ℕ = chain_text b.version (seal b.version before (record_text r)) (texts_of rs) in
-    absurd (omega (arith, one, ap length g.text, length-append (front ++ rest) (closed_gate ∷ []), length-append front rest))
+none_gathered before (r ∷ rs) b g one = grind (arith, common_steps)
 
 -- one with more is a block
 pub block_by : (before : List ℕ) (rs : List Record) (b : Gathered) → Gathers before rs b → 1 < length b.text → IsBlock b.text
@@ -31,28 +29,19 @@ block_by before (r ∷ rs) b g some = gathered_block before r rs b g
 -- the seal behind one record more
 pub seal_more : (before : List ℕ) (rs : List Record) (r : Record) (b next : Gathered) → Gathers before rs b → Gathers before (rs ++ r ∷ []) next → next.version ≡ b.version
     → next.seal ≡ seal b.version b.seal (record_text r)
-seal_more before rs r b next g more version =
-    let v : Version = b.version in
-    more.seal ∙ ap (λ (w : Version). last_seal w before (texts_of (rs ++ r ∷ []))) version
-    ∙ ap (last_seal v before) (map-append record_text rs (r ∷ []))
-    ∙ last_seal-append v before (texts_of rs) (record_text r ∷ [])
-    ∙ ap (λ (l : List ℕ). seal v l (record_text r)) (sym g.seal)
+seal_more before rs r b next g more version = grind (arith, common_steps, map-append, last_seal-append)
 
 -- ---- a record is gathered
 
 -- the record is admitted in whatever state the core holds
 pub admitted_in : (d : Directory) (s : State) (core : Core) (v : Version) (at gate : ℕ) (r : Record) (b : Bool) → IsKept written d core gate s → v ≡ written → at ≡ gate → IsJudged v d core at r b
     → b ≡ admits written d s (gate + 1) r
-admitted_in d s core v at gate r b kept version here judged =
-    judged s kept.holds ∙ ap (λ (w : Version). admits w d s (at + 1) r) version ∙ ap (λ (k : ℕ). admits written d s (k + 1) r) here
+admitted_in d s core v at gate r b kept version here judged = grind (arith, common_steps)
 
 -- what stands behind the last seal
 pub at_gathering : (v : Version) (array before bytes ahead : List ℕ) (o : Option Record) → v ≡ written → held written array ≡ before → bytes ≡ ahead → o ≡ sealed_at v (held v array) bytes
     → sealed_at written before ahead ≡ o
-at_gathering v array before bytes ahead o version seals same is =
-    ap (λ (l : List ℕ). sealed_at written l ahead) (sym seals)
-    ∙ ap (λ (w : Version). sealed_at w (held w array) ahead) (sym version)
-    ∙ ap (sealed_at v (held v array)) (sym same) ∙ sym is
+at_gathering v array before bytes ahead o version seals same is = grind (arith, common_steps)
 
 -- a record is refused
 pub refused_there : (at : ℕ) (before fed left : List ℕ) (r : Record) → sealed_at written before fed ≡ Some r → StopsAs (Feed at) (cond (may_be_cut written fed) (stopped Ends) (stopped (Breaks at))) left
@@ -121,13 +110,7 @@ pub gathered_of : (observed : Type 0) (d : Directory) (calls : List Call) (core 
 gathered_of observed d calls core g o = record { settled = o.settled; records = o.records; stands = o.holds.stands }
 
 pub can_gather : (observed : Type 0) (d : Directory) (calls : List Call) (core : Core) (g : Gathering) → IsGathering observed d calls core g → CanGather d core g
-can_gather observed d calls core g o = record {
-  state = after_records d o.settled o.records;
-  kept = o.holds.kept;
-  seal_is = o.holds.stands.seal_is;
-  current = o.holds.stands.current;
-  version = o.holds.stands.next.version ∙ o.holds.stands.current;
-}
+can_gather observed d calls core g o = grind (arith, common_steps)
 
 pub gathered_one : (observed stells : Type 0) (d : Directory) (calls : List Call) (core : Core) (g : Gathering) (ahead : InFeed) (left : List ℕ) (size : ℕ) (core_now : Core) (next : Gathering) (ahead_now : InFeed) (left_now : List ℕ)
     → IsGathering observed d calls core g → HasGatheredOne stells d core g ahead left size core_now next ahead_now left_now → IsGathering observed d calls core_now next
@@ -139,8 +122,7 @@ gathered_one observed stells d calls core g ahead left size core_now next ahead_
 
 pub gate_grows : (observed stells : Type 0) (d : Directory) (calls : List Call) (core : Core) (g : Gathering) (ahead : InFeed) (left : List ℕ) (size : ℕ) (core_now : Core) (next : Gathering) (ahead_now : InFeed) (left_now : List ℕ)
     → IsGathering observed d calls core g → HasGatheredOne stells d core g ahead left size core_now next ahead_now left_now → gate_behind next ≡ gate_behind g + size + 1
-gate_grows observed stells d calls core g ahead left size core_now next ahead_now left_now o one =
-    omega (arith, gate_on observed stells d o.settled o.records calls core g o.holds ahead left size core_now next ahead_now left_now one, one.size_is)
+gate_grows observed stells d calls core g ahead left size core_now next ahead_now left_now o one = grind (arith, common_steps)
 
 -- ---- what was gathered is brought
 
@@ -152,23 +134,7 @@ brings_none observed d s rs calls g h one =
 
 pub brings_all : (observed : Type 0) (d : Directory) (s : State) (rs : List Record) (old new : List Call) (g next : Gathering) → StandsBehind observed d s rs old g → next.journal ≡ beyond_block g.journal g.batch.text g.batch.seal
     → next.batch ≡ no_records next.journal → next.seal ≡ g.seal → (observed → HasAppendedBlock old g.journal g.batch new next.journal) → HasBrought observed d s rs g new next
-brings_all observed d s rs old new g next h place emptied same appended =
-    let t : State = after_records d s rs in
-    let gate : next.journal.gate ≡ gate_behind g = ap (λ (k : InHand). k.gate) place in
-    let at : gate_behind next ≡ gate_behind g = omega (arith, gate, ap (λ (b : Gathered). length b.text) emptied) in
-    let last : next.batch.seal ≡ g.batch.seal = ap (λ (b : Gathered). b.seal) emptied ∙ ap (λ (k : InHand). k.seal) place in
-    record {
-      stands = record {
-        next = subst (λ (b : Gathered). AreNext d t next.journal [] b) (sym emptied) (next_none d t next.journal);
-        seal_is = ap (held written) same ∙ h.seal_is ∙ sym last;
-        current = ap (λ (k : InHand). k.version) place ∙ h.current;
-        ended = ap (λ (k : InHand). k.ended) place ∙ h.ended;
-        room = omega (arith, at, h.room);
-        stands = λ tell. batch_stands d s old g.journal (h.stands tell) rs g.batch h.next new next.journal (appended tell);
-      };
-      gate_is = at;
-      seal_is = last;
-    }
+brings_all observed d s rs old new g next h place emptied same appended = grind (arith, common_steps, next_none, batch_stands)
 
 -- nothing was done
 pub still_brings : (observed : Type 0) → observed → (d : Directory) (calls : List Call) (g : Gathering) → MayBring observed d calls g calls
@@ -183,10 +149,7 @@ gate_stays observed d old new g next o (inr brings) = (brings o.settled o.record
 -- the core holds the state behind them still
 pub brought_holds : (observed : Type 0) (d : Directory) (s : State) (rs : List Record) (new : List Call) (core : Core) (g next : Gathering) → IsKept written d core (gate_behind g) (after_records d s rs)
     → HasBrought observed d s rs g new next → HoldsBehind observed d (after_records d s rs) [] new core next
-brought_holds observed d s rs new core g next kept brought = record {
-  stands = brought.stands;
-  kept = subst (λ (k : ℕ). IsKept written d core k (after_records d s rs)) (sym brought.gate_is) kept;
-}
+brought_holds observed d s rs new core g next kept brought = grind (arith, common_steps)
 
 pub has_room : (observed : Type 0) (d : Directory) (old new : List Call) (core : Core) (g next : Gathering) → IsGathering observed d old core g → MayHaveBrought observed d old g new next → IsGathering observed d new core next
 has_room observed d old new core g next o (inl same) = subst (λ (x : Gathering). IsGathering observed d new core x) (sym same.1) (subst (λ (l : List Call). IsGathering observed d l core g) (sym same.0) o)
@@ -200,16 +163,4 @@ has_room observed d old new core g next o (inr brings) = record {
 
 pub began : (observed : Type 0) (d : Directory) (s : State) (calls : List Call) (core : Core) (j : InHand) (g : Gathering) → HoldsAt observed d s calls core j → g.journal ≡ j → g.batch ≡ no_records j → held j.version g.seal ≡ j.seal
     → HoldsBehind observed d s [] calls core g
-began observed d s calls core j g h journal batch seals =
-    let gate : gate_behind g ≡ j.gate = omega (arith, ap (λ (k : InHand). k.gate) journal, ap (λ (b : Gathered). length b.text) batch) in
-    record {
-      stands = record {
-        next = subst (λ (b : Gathered). AreNext d s g.journal [] b) (ap no_records journal ∙ sym batch) (next_none d s g.journal);
-        seal_is = ap (λ (v : Version). held v g.seal) (sym h.current) ∙ seals ∙ sym (ap (λ (b : Gathered). b.seal) batch);
-        current = ap (λ (k : InHand). k.version) journal ∙ h.current;
-        ended = ap (λ (k : InHand). k.ended) journal ∙ h.ended;
-        room = omega (arith, gate, h.kept.room);
-        stands = λ tell. subst (λ (k : InHand). StandsFor d s calls k) (sym journal) (h.stands tell);
-      };
-      kept = subst (λ (k : ℕ). IsKept written d core k s) (sym gate) h.kept;
-    }
+began observed d s calls core j g h journal batch seals = grind (arith, common_steps, next_none)

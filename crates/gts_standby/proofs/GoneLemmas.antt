@@ -1,7 +1,7 @@
 -- So many records of a feed were added to a journal, and so many gathered behind it.
 use Rattle.std.proofs.Common.{◌≡◌, inl, inr, ℕ, ◌+◌, ◌-◌, ◌≤◌, cond, List, [], ◌∷◌, ◌++◌, length, drop, Option, Some, None, Ok, refl, sym, ap, subst, ◌∙◌, arith, length-append, length-drop}
 use Rattle.std.proofs.lemmas.List.{append-nil, append_assoc}
-use Rattle.gts_standby.specs.Cited.{Breaks, Call, Core, Directory, DiskFault, Diverged, Done, EachSince, Ends, EndsAs, Feed, Files, FollowEnd, Gathered, Gathering, GathersNone, HasAdded, HasBrought, HasGatheredOne, HasRead, HoldsAt, HoldsBehind, InFeed, InHand, IsEnd, IsFedEnd, IsFinished, MayBring, MayHaveBrought, Need, NoMemory, Open, OpensTo, OpensWithin, Outside, ReadsToOneOf, Record, SaidSince, SourceFault, StandsFor, State, StopsAt, Taken, Version, add_all, adding, after, after_records, chain_text, closed_gate, event_of_record, files_read, gate_behind, last_seal, may_be_cut, no_records, open_gate, read_after, read_at, read_begun, read_behind, read_with, record_behind, record_size, record_text, said_by, seal, sealed, seen, start_of, stopped, texts_of, written}
+use Rattle.gts_standby.specs.Cited.{Breaks, Call, Core, Directory, DiskFault, Done, EachSince, Ends, EndsAs, Feed, Files, FollowEnd, Gathered, Gathering, GathersNone, HasAdded, HasBrought, HasGatheredOne, HasRead, HoldsAt, HoldsBehind, InFeed, InHand, IsEnd, IsFedEnd, IsFinished, MayBring, MayHaveBrought, Need, NoMemory, OpensTo, OpensWithin, Outside, ReadsToOneOf, Record, SaidSince, SourceFault, StandsFor, State, StopsAt, Taken, Version, add_all, adding, after, after_records, chain_text, closed_gate, event_of_record, files_read, gate_behind, last_seal, may_be_cut, no_records, open_gate, read_after, read_at, read_begun, read_behind, read_with, record_behind, record_size, record_text, said_by, seal, sealed, seen, start_of, stopped, texts_of, written}
 use Rattle.gts_traits.proofs.LawLemmas.{started, joined}
 use Rattle.gts_record.proofs.LawLemmas.{length-sealed}
 use Rattle.gts_standby.proofs.AddLemmas.{next_is, read_now, opened_now, no_begin, not_empty, some_text, one_step, no_step}
@@ -246,9 +246,7 @@ module _ (observed stells : Type 0) (tell : observed) (stell : stells) (d : Dire
       by_end (Feed place) kind none brought = let here = none stell t g.fed g.holds.kept g.read tt in ended (Feed place) new next left_now brought may_here here.0 here.1
       by_end SourceFault kind none brought = broke_off SourceFault new left_now (λ e. e) may_here
       by_end NoMemory kind none brought = broke_off NoMemory new left_now (λ e. e) may_here
-      by_end DiskFault kind none brought = absurd kind
-      by_end (Open fault) kind none brought = absurd kind
-      by_end (Diverged index own fed) kind none brought = absurd kind
+      by_end _ kind none brought = absurd kind
 
       by_done : IsFinished answer end observed d mid x new next → HasAdded answer d s used last all old new left_now
       by_done (inl both) =

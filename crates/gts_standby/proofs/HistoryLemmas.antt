@@ -13,6 +13,7 @@ use Rattle.gts_standby.proofs.ScanLemmas.{drop_front}
 use Rattle.gts_standby.proofs.AddLemmas.{added_by, some_text, no_begin}
 use Rattle.gts_standby.proofs.TakeLemmas.{sound_header}
 use Rattle.gts_standby.proofs.FrontLemmas.{behind_by, records_by, come_by, unread_there, front_adds}
+use Rattle.std.proofs.lemmas.Grind.{common_steps}
 
 -- taken to its end, with records that lead from what a journal reads to on to this
 abbrev pub Comes : Directory → State × ℕ × List ℕ → State × ℕ × List ℕ → Taken → Type 0
@@ -91,10 +92,7 @@ no_checkpoint d (suc n) file before s gate bytes x reads = elim (at_entry writte
 
 pub agreeing_all : (xs ys : List ℕ) → agreeing xs (xs ++ ys) ≡ length xs
 agreeing_all [] ys = refl
-agreeing_all (x ∷ xs) ys = ap (λ (b : Bool). cond b (suc (agreeing xs (xs ++ ys))) 0) (same x) ∙ ap suc (agreeing_all xs ys)
-  where
-    same : (n : ℕ) → (n == n) ≡ true
-    same n = grind (arith, nat_tests)
+agreeing_all (x ∷ xs) ys = grind (arith, common_steps, nat_tests, agreeing_all xs ys)
 
 sound_tests : (mark : List ℕ) (file : ℕ) (bytes : List ℕ) (is_empty is_old begins is_short is_ours : Bool) → fault_by written mark file bytes is_empty is_old begins is_short is_ours ≡ None → (begins ≡ true) × (is_ours ≡ true)
 sound_tests mark file bytes true is_old begins is_short is_ours is = absurd (cc is)

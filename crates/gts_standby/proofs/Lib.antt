@@ -5,6 +5,7 @@ pub mod ShipLemmas
 pub mod FirstLemmas
 pub mod HeaderLemmas
 pub mod FedLemmas
+mod MayBeginLemmas
 pub mod AddLemmas
 pub mod ReadLemmas
 pub mod GatherLemmas
@@ -15,7 +16,6 @@ pub mod BeginLemmas
 pub mod PutLemmas
 pub mod TakeLemmas
 pub mod WholeLemmas
-pub mod NamedLemmas
 mod OtherLemmas
 pub mod FrontLemmas
 mod FurtherLemmas

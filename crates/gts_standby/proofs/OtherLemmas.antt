@@ -1,6 +1,6 @@
 -- Whether a feed has another record 0, by how it is answered.
-use Rattle.std.proofs.Common.{◌≡◌, zero, suc, ◌≤◌, ℕ, List, Result, Ok, Err, true, false, refl, sym, ◌∙◌, arith}
-use Rattle.gts_standby.specs.Cited.{DiskFault, Diverged, Done, Feed, FollowEnd, InFeed, IsEnd, IsFedEnd, IsLater, IsOwnEnd, KeepsOther, NoMemory, Open, OpenFault, ReadsAll, SourceFault, is_other, open_end}
+use Rattle.std.proofs.Common.{◌≡◌, ℕ, List, Result, Ok, Err, true, false, refl, sym, ◌∙◌}
+use Rattle.gts_standby.specs.Cited.{Diverged, Done, Feed, FollowEnd, InFeed, IsEnd, IsFedEnd, IsLater, IsOwnEnd, KeepsOther, Open, OpenFault, ReadsAll, is_other, open_end}
 use Rattle.gts_record.specs.declared.fault.OpenFault.TheVariants as opening
 
 pub fed_other : (answer : FollowEnd) → IsFedEnd answer → is_other answer ≡ false
@@ -8,18 +8,14 @@ fed_other Done kind = refl
 fed_other (Open fault) kind = refl
 fed_other (Feed at) kind = refl
 fed_other (Diverged index own fed) kind = absurd kind
-fed_other SourceFault kind = refl
-fed_other DiskFault kind = refl
-fed_other NoMemory kind = refl
+fed_other _ kind = refl
 
 pub own_other : (answer : FollowEnd) → IsOwnEnd answer → is_other answer ≡ false
 own_other Done kind = refl
 own_other (Open fault) kind = refl
 own_other (Feed at) kind = refl
 own_other (Diverged index own fed) kind = absurd kind
-own_other SourceFault kind = refl
-own_other DiskFault kind = refl
-own_other NoMemory kind = refl
+own_other _ kind = refl
 
 pub open_other : (e : OpenFault) → is_other (open_end e) ≡ false
 open_other opening.DiskFault = refl
@@ -28,10 +24,6 @@ open_other opening.NoJournal = refl
 open_other opening.OldVersion = refl
 open_other (opening.NotThis want found) = refl
 open_other (opening.Damaged file at) = refl
-
-pub later_other : (index : ℕ) (own fed : List ℕ) → 1 ≤ index → is_other (Diverged index own fed) ≡ false
-later_other zero own fed low = absurd (omega (arith, low))
-later_other (suc index) own fed low = refl
 
 pub no_other : (P : Type 0) (answer : FollowEnd) → is_other answer ≡ false → is_other answer ≡ true → P
 no_other P answer none other = let both : true ≡ false = sym other ∙ none in absurd (cc both)
@@ -42,18 +34,11 @@ kept_later (Err end) fed ahead left later = λ other. no_other _ end later other
 
 pub other_all : (answer : FollowEnd) (left : List ℕ) → is_other answer ≡ true → ReadsAll answer left
 other_all Done left other = absurd (cc other)
-other_all (Open fault) left other = tt
-other_all (Feed at) left other = tt
-other_all (Diverged index own fed) left other = tt
-other_all SourceFault left other = tt
-other_all DiskFault left other = tt
-other_all NoMemory left other = tt
+other_all _ left other = tt
 
 pub other_end : (answer : FollowEnd) → is_other answer ≡ true → IsEnd answer
 other_end Done other = tt
 other_end (Open fault) other = absurd (cc other)
 other_end (Feed at) other = tt
 other_end (Diverged index own fed) other = tt
-other_end SourceFault other = absurd (cc other)
-other_end DiskFault other = absurd (cc other)
-other_end NoMemory other = absurd (cc other)
+other_end _ other = absurd (cc other)

@@ -1,11 +1,12 @@
 -- What a feed comes to that begins with a checkpoint, by the bytes that were read of it.
-use Rattle.std.proofs.Common.{◌≡◌, ℕ, ◌+◌, ◌-◌, ◌*◌, ◌^◌, ◌<◌, ◌≤◌, Bool, true, false, ◌&&◌, cond, nat_eq, nat_le, nat_lt, List, ◌++◌, length, take, drop, Some, Result, Err, refl, sym, ap, subst, ◌∙◌, arith, Option, None, IfSome, IfNone, IsErrOf}
-use Rattle.gts_standby.specs.Cited.{Bad, BeginsWith, Behind, Breaks, Broken, Cut, Directory, DiskFault, Diverged, Done, Feed, FollowEnd, InHand, IsAddEnd, IsCheckpoint, IsEnd, IsPutEnd, Need, NoMemory, Open, Piece, Reached, Sealed, Short, SourceFault, Taken, Version, add_all, admits_checkpoint, begin_with, begun, begun_taken, behind_checkpoint, by_piece, checkpoint_piece, checkpoint_text, compacted_bytes, draw_size, due, first_seal, held, is_sealed, is_sound, need_in, need_of, same_text, seal, seal_size, starts_with, stopped, written}
+use Rattle.std.proofs.Common.{◌≡◌, ℕ, ◌+◌, ◌-◌, ◌*◌, ◌^◌, ◌<◌, ◌≤◌, Bool, true, false, ◌&&◌, cond, nat_eq, nat_le, nat_lt, List, ◌++◌, length, take, drop, Some, refl, sym, ap, subst, ◌∙◌, arith, Option, None, IfSome, IfNone}
+use Rattle.gts_standby.specs.Cited.{Bad, BeginsWith, Behind, Breaks, Broken, Cut, Directory, Diverged, Done, Feed, FollowEnd, InHand, IsCheckpoint, IsEnd, IsPutEnd, Need, Open, Piece, Reached, Sealed, Short, SourceFault, Taken, Version, add_all, admits_checkpoint, begin_with, begun, begun_taken, behind_checkpoint, by_piece, checkpoint_piece, checkpoint_text, compacted_bytes, draw_size, due, first_seal, held, is_sealed, is_sound, need_in, need_of, same_text, seal, seal_size, starts_with, stopped, written}
 use Rattle.std.proofs.lemmas.Bool.{and_parts, and_from, leb-true, eqb-true, eq-eqb}
 use Rattle.std.proofs.lemmas.List.{length-take, take-append-drop, take-append-le}
 use Rattle.gts_event.specs.declared.values.Need as values
 use Rattle.gts_opening.proofs.LawLemmas.{need_in-text, fits-sound}
 use Rattle.gts_checkpoint.proofs.ReadLemmas.{admitted, need_read}
+use Rattle.std.proofs.lemmas.Grind.{common_steps}
 
 -- ---- the ends of writing
 
@@ -15,26 +16,7 @@ put_ends (Feed at) kind end = kind
 put_ends (Open fault) kind end = kind
 put_ends (Diverged index own fed) kind end = kind
 put_ends SourceFault kind end = kind
-put_ends DiskFault kind end = end
-put_ends NoMemory kind end = end
-
-pub put_adds : (answer : FollowEnd) → IsPutEnd answer → IsAddEnd answer
-put_adds Done kind = absurd kind
-put_adds (Feed at) kind = absurd kind
-put_adds (Open fault) kind = absurd kind
-put_adds (Diverged index own fed) kind = absurd kind
-put_adds SourceFault kind = absurd kind
-put_adds DiskFault kind = tt
-put_adds NoMemory kind = tt
-
-pub put_no_source : {T : Type 0} (answer : FollowEnd) → IsPutEnd answer → (P : Type 0) → (let failed : Result T FollowEnd = Err answer in IsErrOf failed SourceFault) → P
-put_no_source Done kind P is = absurd kind
-put_no_source (Feed at) kind P is = absurd kind
-put_no_source (Open fault) kind P is = absurd kind
-put_no_source (Diverged index own fed) kind P is = absurd kind
-put_no_source SourceFault kind P is = absurd kind
-put_no_source DiskFault kind P is = absurd (cc is)
-put_no_source NoMemory kind P is = absurd (cc is)
+put_ends _ kind end = end
 
 -- ---- what was decoded
 
@@ -75,12 +57,7 @@ sealed_parts v limit before fed size last is = by_reached (behind_checkpoint lim
 -- it is that of the feed beside a journal of the directory
 pub piece_of : (d : Directory) (v : Version) (limit : ℕ) (mark before fed : List ℕ) (piece : Piece) → v ≡ written → limit ≡ d.limit → mark ≡ d.mark → held v before ≡ first_seal v mark
     → checkpoint_piece v limit (held v before) fed ≡ piece → checkpoint_piece written d.limit (first_seal written d.mark) fed ≡ piece
-piece_of d v limit mark before fed piece version most ours first is =
-    sym
-    (ap (λ (b : List ℕ). checkpoint_piece v limit b fed) (first ∙ ap (first_seal v) ours)
-    ∙ ap (λ (w : Version). checkpoint_piece w limit (first_seal w d.mark) fed) version
-    ∙ ap (λ (l : ℕ). checkpoint_piece written l (first_seal written d.mark) fed) most)
-    ∙ is
+piece_of d v limit mark before fed piece version most ours first is = grind (arith, common_steps)
 
 -- ---- what it comes to
 

@@ -1,11 +1,9 @@
 -- What the files of a journal read to, at each moment.
-use Rattle.std.proofs.Common.{◌≡◌, ◌⊎◌, inl, inr, ℕ, suc, ◌+◌, ◌-◌, List, [], ◌∷◌, ◌++◌, length, take, Option, Some, None, Result, Ok, Err, refl, sym, ap, subst, ◌∙◌, arith, length-append}
-use Rattle.std.proofs.lemmas.List.{append-nil, length-take, take_at}
-use Rattle.gts_standby.specs.Cited.{AreAdmitted, AreNext, AsBefore, Call, Directory, EachSince, EndsAt, Files, Gathered, InHand, IsImage, LeavesAllOrNone, Need, OnlySyncs, OpensTo, OpensWithin, Outside, ReadsToOneOf, Record, StandsFor, State, Syncs, Taken, Tries, Version, WithFront, after, after_records, chain_text, closed_gate, event_of_record, file_of, file_opens, files_read, front_of, gate_after, last_seal, open_gate, opened_part, read_at, read_begun, read_behind, record_size, record_text, said_by, seal, sealed, seen, selected, start_of, texts_of, written}
+use Rattle.std.proofs.Common.{◌≡◌, ◌⊎◌, inl, inr, ℕ, ◌+◌, ◌-◌, List, [], ◌∷◌, ◌++◌, length, Option, Some, None, Result, Ok, Err, refl, sym, ap, subst, ◌∙◌, arith, length-append}
+use Rattle.std.proofs.lemmas.List.{append-nil}
+use Rattle.gts_standby.specs.Cited.{AreNext, AsBefore, Call, Directory, EachSince, EndsAt, Files, Gathered, InHand, IsImage, LeavesAllOrNone, Need, OnlySyncs, OpensTo, OpensWithin, Outside, ReadsToOneOf, Record, StandsFor, State, Syncs, Taken, Tries, Version, WithFront, after, after_records, chain_text, closed_gate, event_of_record, file_opens, files_read, front_of, gate_after, last_seal, opened_part, read_at, read_begun, read_behind, record_size, record_text, said_by, seal, seen, start_of, texts_of, written}
 use Rattle.gts_traits.proofs.LawLemmas.{weaker, started, synced, said_is, synced_image}
-use Rattle.gts_record.proofs.LawLemmas.{length-sealed}
-use Rattle.gts_opening.proofs.LawLemmas.{opens_same}
-use Rattle.gts_journal.proofs.LawLemmas.{open_selected, opens_many}
+use Rattle.gts_journal.proofs.LawLemmas.{all_file, before_file, length-chain, open_selected, same_open, selects}
 use Rattle.gts_standby.proofs.AddLemmas.{opened_need, read_now}
 
 -- ---- files that read to this open to its state
@@ -37,43 +35,14 @@ with_front d read taken front back files outside parts quiet is =
 
 -- ---- a journal at its end
 
--- files that read alike
-same_read : (d : Directory) (files others : Files) → ((k : ℕ) → files k ≡ others k) → files_read written d files ≡ files_read written d others
-same_read d files others same =
-    ap (λ (n : ℕ). file_opens written d n (files n)) (ap (λ (l : List ℕ). selected (λ _. l)) (same 2))
-    ∙ ap (file_opens written d (selected others)) (same (selected others))
-
--- the gate behind records stands behind their bytes
-length-chain : (before : List ℕ) (rs : List Record) (gate : ℕ) → gate_after written gate rs ≡ gate + length (chain_text written before (texts_of rs))
-length-chain before [] gate = omega arith
-length-chain before (r ∷ rs) gate =
-    let next : List ℕ = seal written before (record_text r) in
-    let one : List ℕ = open_gate ∷ sealed written before (record_text r) in
-    omega (arith, length-chain next rs (gate + record_size written r), length-append one (chain_text written next (texts_of rs)), length-sealed written before (record_text r))
-
--- a file that ends at a gate reaches to it
-gate_there : (gate : ℕ) (file : List ℕ) → EndsAt (take gate file) file → gate ≡ length (take gate file)
-gate_there gate file ends =
-    let all : length file ≡ length (take gate file) + suc (length ends.behind) = ap length ends.is ∙ length-append (take gate file) (ends.gate ∷ ends.behind) in
-    omega (arith, all, length-take gate file)
-
 module _ (d : Directory) (s : State) (calls : List Call) (j : InHand) (f : StandsFor d s calls j) where
-  file_here : file_opens written d j.file (file_of calls j) ≡ Ok (read_at s j)
-  file_here = sym (open_selected written d (seen calls) j.file f.stands.selected_is) ∙ read_now d s calls j f
-
   -- where the selector is as it was
-  file_reads : (files : Files) (read : State × ℕ × List ℕ) → files 2 ≡ seen calls 2 → file_opens written d j.file (files j.file) ≡ Ok read → files_read written d files ≡ Ok read
-  file_reads files read same is = open_selected written d files j.file (ap (λ (l : List ℕ). selected (λ _. l)) same ∙ f.stands.selected_is) ∙ is
-
-  front_is : take (j.gate + 1 - 1) (file_of calls j) ≡ front_of calls j
-  front_is = ap (λ (n : ℕ). take n (file_of calls j)) (let e : j.gate + 1 - 1 ≡ j.gate = omega arith in e)
+  reads : (files : Files) (read : State × ℕ × List ℕ) → files 2 ≡ seen calls 2 → file_opens j.version d j.file (files j.file) ≡ Ok read → files_read written d files ≡ Ok read
+  reads files read same is = ap (λ (v : Version). files_read v d files) (sym f.current) ∙ open_selected j.version d files j.file (selects d s calls j f files same) ∙ is
 
   -- and the journal ends where it ended
   reads_before : (files : Files) → files 2 ≡ seen calls 2 → EndsAt (front_of calls j) (files j.file) → files_read written d files ≡ Ok (read_at s j)
-  reads_before files same ends =
-      file_reads files (read_at s j) same
-      (opens_same written d j.file (file_of calls j) s (j.gate + 1) j.seal f.limit file_here (files j.file) (ends.gate ∷ ends.behind) (ends.gate, ends.behind, ends.closed, refl)
-      (ends.is ∙ ap (λ (l : List ℕ). l ++ ends.gate ∷ ends.behind) (sym front_is)))
+  reads_before files same ends = reads files (read_at s j) same (before_file d s calls j f (files j.file) ends)
 
   pub images_read : (image : Files) → IsImage calls image → files_read written d image ≡ Ok (read_at s j)
   images_read image left =
@@ -90,7 +59,7 @@ module _ (d : Directory) (s : State) (calls : List Call) (j : InHand) (f : Stand
           let P : Files → Outside → Type 0 = OpensWithin d (read_at s j) taken in
           let here = started calls P (λ files image. as_before d (read_at s j) taken files [] refl (images_read files image)) in
           synced P calls calls here result new
-          (λ files same. as_before d (read_at s j) taken files _ (said_is P calls calls here [] (sym (append-nil (said_by calls)))) (same_read d files (seen calls) same ∙ read_now d s calls j f)) tries
+          (λ files same. as_before d (read_at s j) taken files _ (said_is P calls calls here [] (sym (append-nil (said_by calls)))) (same_open written d files (seen calls) same ∙ read_now d s calls j f)) tries
 
       by_end : OnlySyncs calls new → EachSince calls new (OpensWithin d (read_at s j) taken)
       by_end (inl is) = let done : Result (Unit {0}) (Unit {0}) = Ok tt in run done is
@@ -99,34 +68,18 @@ module _ (d : Directory) (s : State) (calls : List Call) (j : InHand) (f : Stand
   -- ---- records that are brought into it
 
   module _ (rs : List Record) (b : Gathered) (next : AreNext d s j rs b) where
-    version : b.version ≡ written
-    version = next.version ∙ f.current
-
-    text_is : b.text ≡ chain_text written j.seal (texts_of rs) ++ closed_gate ∷ []
-    text_is = next.gathers.text ∙ ap (λ (v : Version). chain_text v j.seal (texts_of rs) ++ closed_gate ∷ []) version
-
     -- all of them stand there
     reads_all : (files : Files) → files 2 ≡ seen calls 2 → EndsAt (front_of calls j ++ opened_part b.text) (files j.file)
         → files_read written d files ≡ Ok (after_records d s rs, j.gate + (length b.text - 1) + 1, b.seal)
     reads_all files same ends =
         let t : State = after_records d s rs in
-        let text : List ℕ = chain_text written j.seal (texts_of rs) in
-        let end : List ℕ = ends.gate ∷ ends.behind in
-        let Q : ℕ → Type 0 = λ n. AreAdmitted written d s n rs in
-        let gate_is : j.gate ≡ j.gate + 1 - 1 = omega arith in
-        let long : length (take (j.gate + 1 - 1) (file_of calls j)) ≡ j.gate + 1 - 1 = ap length front_is ∙ sym (gate_there j.gate (file_of calls j) (f.stands.end_is f.ended)) ∙ gate_is in
-        let size : length b.text ≡ length text + 1 = (let e : length (text ++ closed_gate ∷ []) ≡ length text + 1 = omega (arith, length-append text (closed_gate ∷ [])) in ap length text_is ∙ e) in
-        let part : opened_part b.text ≡ text =
-        ap (λ (l : List ℕ). take (length l - 1) l) text_is
-        ∙ take_at text (closed_gate ∷ []) (length (text ++ closed_gate ∷ []) - 1) (omega (arith, length-append text (closed_gate ∷ []))) in
-        let behind : ℕ = gate_after written (j.gate + 1 - 1) rs + 1 in
-        let last : List ℕ = last_seal written j.seal (texts_of rs) in
-        let place : behind ≡ j.gate + (length b.text - 1) + 1 = omega (arith, length-chain j.seal rs (j.gate + 1 - 1), size) in
-        let seals : last ≡ b.seal = sym (next.gathers.seal ∙ ap (λ (v : Version). last_seal v j.seal (texts_of rs)) version) in
-        file_reads files (t, behind, last) same
-        (opens_many written d j.file rs (file_of calls j) s (j.gate + 1) j.seal f.limit file_here long (subst Q gate_is next.admitted) (files j.file) end (ends.gate, ends.behind, ends.closed, refl)
-        (ends.is ∙ ap (λ (l : List ℕ). l ++ end) (ap (λ (l : List ℕ). l ++ opened_part b.text) (sym front_is) ∙ ap (λ (l : List ℕ). take (j.gate + 1 - 1) (file_of calls j) ++ l) part)))
-        ∙ ap (λ (n : ℕ). Ok (t, n, last)) place ∙ ap (λ (l : List ℕ). Ok (t, j.gate + (length b.text - 1) + 1, l)) seals
+        let size : length b.text ≡ length (chain_text j.version j.seal (texts_of rs)) + 1 =
+        ap length next.gathers.text ∙ length-append (chain_text b.version j.seal (texts_of rs)) (closed_gate ∷ []) ∙ ap (λ (v : Version). length (chain_text v j.seal (texts_of rs)) + 1) next.version in
+        let last : last_seal j.version j.seal (texts_of rs) ≡ b.seal = ap (λ (v : Version). last_seal v j.seal (texts_of rs)) (sym next.version) ∙ sym next.gathers.seal in
+        reads files (t, gate_after j.version j.gate rs + 1, last_seal j.version j.seal (texts_of rs)) same (all_file d s calls j f rs b next (files j.file) ends)
+        ∙ ap (λ (n : ℕ). Ok (t, n, last_seal j.version j.seal (texts_of rs)))
+        (let e : gate_after j.version j.gate rs + 1 ≡ j.gate + (length b.text - 1) + 1 = omega (arith, size, length-chain j.version j.seal rs j.gate) in e)
+        ∙ ap (λ (l : List ℕ). Ok (t, j.gate + (length b.text - 1) + 1, l)) last
 
     pub batch_reads : (new : List Call) → EachSince calls new (LeavesAllOrNone calls j b.text)
         → EachSince calls new (ReadsToOneOf d (read_at s j) (after_records d s rs, j.gate + (length b.text - 1) + 1, b.seal))

@@ -2,18 +2,16 @@
 use Rattle.std.proofs.Common.{◌≡◌, ℕ, ◌+◌, ◌-◌, ◌≤◌, List, [], ◌++◌, length, take, drop, Result, Ok, Err, refl, sym, subst, ap, ◌∙◌, arith, IsErr}
 use Rattle.std.proofs.Math.Seq.{take-add}
 use Rattle.std.proofs.lemmas.List.{append-nil, drop-drop, take_all}
-use Rattle.gts_standby.specs.Cited.{Call, SaysFront, SaysHere, SaysOnly, Speaks, on}
+use Rattle.gts_standby.specs.Cited.{Call, SaysFront, SaysHere, Speaks, on}
 use Rattle.gts_traits.proofs.LawLemmas.{on-append}
 use Rattle.gts_traits.proofs.SayLemmas.{said_none, said_more, front_behind, front_more}
+use Rattle.std.proofs.lemmas.Grind.{common_steps}
 
 pub says_none : (calls : List Call) → SaysHere calls calls []
 says_none calls = record { only = said_none calls; stands = λ j stands. stands }
 
 pub says_more : (a b c : List Call) (x y : List ℕ) → SaysHere a b x → SaysHere b c y → SaysHere a c (x ++ y)
-says_more a b c x y first second = record {
-  only = subst (SaysOnly a c) (sym (on-append 0 x y)) (said_more a b c (on 0 x) (on 0 y) first.only second.only);
-  stands = λ j stands. second.stands j (first.stands j stands);
-}
+says_more a b c x y first second = grind (arith, common_steps, on-append, said_more)
 
 pub fronts_behind : (a b c : List Call) (x y : List ℕ) → SaysHere a b x → SaysFront b c (on 0 y) → SaysFront a c (on 0 (x ++ y))
 fronts_behind a b c x y first second = subst (SaysFront a c) (sym (on-append 0 x y)) (front_behind a b c (on 0 x) (on 0 y) first.only second)

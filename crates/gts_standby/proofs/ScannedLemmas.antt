@@ -1,6 +1,6 @@
 -- The checkpoint of a need is found by its lengths, at the front of whatever stands behind it.
-use Rattle.std.proofs.Common.{◌≡◌, ℕ, ◌+◌, ◌*◌, ◌^◌, ◌<◌, ◌≤◌, Bool, true, cond, List, [], ◌∷◌, ◌++◌, length, take, drop, replicate, Some, None, nat_le, sym, ap, ◌∙◌, arith, length-append}
-use Rattle.gts_standby.specs.Cited.{AllByRecursion, An, Behind, Bi, CircuitNeed, Directory, FitsCircuit, FitsNeed, Fx, Kind, LONGEST_BODY, Need, Reached, and_then, behind_all, behind_bulletin, behind_checkpoint, behind_circuit, behind_counted, bulletin_size, bulletin_text, bytes_of, checkpoint_text, circuit_size, circuit_text, flat_map, is_bulletin, least_bulletin, list_all, number_in, reach, reach_found}
+use Rattle.std.proofs.Common.{◌≡◌, ℕ, ◌+◌, ◌*◌, ◌≤◌, true, cond, List, [], ◌∷◌, ◌++◌, length, take, drop, replicate, Some, None, nat_le, sym, ap, ◌∙◌, arith, length-append}
+use Rattle.gts_standby.specs.Cited.{AllByRecursion, Behind, CircuitNeed, Directory, FitsCircuit, FitsNeed, LONGEST_BODY, Need, Reached, and_then, behind_all, behind_bulletin, behind_checkpoint, behind_circuit, behind_counted, bulletin_size, bulletin_text, bytes_of, checkpoint_text, circuit_size, circuit_text, flat_map, is_bulletin, least_bulletin, list_all, number_in, reach}
 use Rattle.gts_event.specs.State.{Bulletin}
 use Rattle.std.proofs.lemmas.Bool.{and_parts, le-leb, leb-true}
 use Rattle.std.proofs.lemmas.List.{append_assoc, drop-drop}
@@ -8,6 +8,7 @@ use Rattle.std.proofs.Math.Seq.{drop-append_seam}
 use Rattle.gts_record.proofs.LawLemmas.{number_in-bytes_of}
 use Rattle.gts_opening.proofs.CheckpointLemmas.{length-numbers}
 use Rattle.gts_standby.proofs.ScanLemmas.{reach_on}
+use Rattle.std.proofs.lemmas.Grind.{common_steps}
 
 -- ---- a bulletin
 
@@ -20,45 +21,22 @@ abbrev IsShortBody : Bulletin → Type 0
 IsShortBody b = length b.body ≤ LONGEST_BODY
 
 size_of : (k length_body : ℕ) → k ≡ length_body → length_body ≤ LONGEST_BODY → cond (nat_le k LONGEST_BODY) (Some (16 + k)) None ≡ Some (16 + length_body)
-size_of k size is short =
-    ap (λ (m : ℕ). cond (nat_le m LONGEST_BODY) (Some (16 + m)) None) is
-    ∙ ap (λ (b : Bool). cond b (Some (16 + size)) None) (le-leb size LONGEST_BODY short)
+size_of k size is short = grind (arith, common_steps, le-leb)
 
 bulletin_found : (b : Bulletin) (more : List ℕ) → IsShortBody b → bulletin_size (over least_bulletin (bulletin_text b ++ more)) ≡ Some (16 + length b.body)
-bulletin_found b more short = go b.kind b.position b.from b.body short
-  where
-    few : (body : List ℕ) → length body ≤ LONGEST_BODY → length body < 256 ^ 4
-    few body short = omega (arith, short)
-
-    go : (kind : Kind) (position from : ℕ) (body : List ℕ) → length body ≤ LONGEST_BODY
-        → bulletin_size (over least_bulletin (bulletin_text (record { position = position; from = from; kind = kind; body = body }) ++ more)) ≡ Some (16 + length body)
-    go An position from body short = size_of (number_in (bytes_of 4 (length body))) (length body) (number_in-bytes_of 4 (length body) (few body short)) short
-    go Bi position from body short = size_of (number_in (bytes_of 4 (length body))) (length body) (number_in-bytes_of 4 (length body) (few body short)) short
-    go Fx position from body short = size_of (number_in (bytes_of 4 (length body))) (length body) (number_in-bytes_of 4 (length body) (few body short)) short
+bulletin_found b more short = grind (arith, common_steps, size_of, number_in-bytes_of)
 
 length-bulletin_text : (b : Bulletin) → length (bulletin_text b) ≡ 16 + length b.body
-length-bulletin_text b = go b.kind b.position b.from b.body
-  where
-    go : (kind : Kind) (position from : ℕ) (body : List ℕ) → length (bulletin_text (record { position = position; from = from; kind = kind; body = body })) ≡ 16 + length body
-    go An position from body = omega arith
-    go Bi position from body = omega arith
-    go Fx position from body = omega arith
+length-bulletin_text b = grind (arith, common_steps)
 
 bulletin_there : (limit : ℕ) (bytes : List ℕ) (at : ℕ) (b : Bulletin) (more : List ℕ) → drop at bytes ≡ bulletin_text b ++ more → IsShortBody b → at + length (bulletin_text b) ≤ limit
     → at + length (bulletin_text b) ≤ length bytes → behind_bulletin limit bytes at ≡ Behind (at + length (bulletin_text b))
-bulletin_there limit bytes at b more is short low there =
-    let size = length-bulletin_text b in
-    ap (λ (l : List ℕ). reach_found limit bytes at (bulletin_size (over least_bulletin l))) is
-    ∙ ap (reach_found limit bytes at) (bulletin_found b more short)
-    ∙ ap (reach limit bytes at) (sym size)
-    ∙ reach_on limit bytes at (length (bulletin_text b)) low there
+bulletin_there limit bytes at b more is short low there = grind (arith, common_steps, length-bulletin_text, bulletin_found, reach_on)
 
 -- ---- a circuit
 
 circuit_found : (c : CircuitNeed) (more : List ℕ) → FitsCircuit c → circuit_size (over (replicate 16 0) (circuit_text c ++ more)) ≡ 16 + 8 * (length c.waiting + length c.kept)
-circuit_found c more fits =
-    ap (λ (k : ℕ). 16 + 8 * (k + number_in (bytes_of 4 (length c.kept)))) (number_in-bytes_of 4 (length c.waiting) fits.1)
-    ∙ ap (λ (k : ℕ). 16 + 8 * (length c.waiting + k)) (number_in-bytes_of 4 (length c.kept) fits.2)
+circuit_found c more fits = grind (arith, common_steps, number_in-bytes_of)
 
 length-circuit_text : (c : CircuitNeed) → length (circuit_text c) ≡ 16 + 8 * (length c.waiting + length c.kept)
 length-circuit_text c = omega (arith, length-numbers (c.waiting ++ c.kept), length-append c.waiting c.kept)

@@ -1,18 +1,18 @@
 -- What is said of a feed, record by record.
 use Rattle.std.proofs.Common.{◌≡◌, inl, inr, ℕ, ◌+◌, ◌-◌, ◌<◌, ◌≤◌, List, [], ◌++◌, take, drop, Option, Some, Result, Ok, Err, refl, sym, ap, subst, ◌∙◌, arith, append_assoc, IfOk, IfErr}
 use Rattle.std.proofs.lemmas.List.{append-nil}
-use Rattle.gts_standby.specs.Cited.{Call, Directory, Gives, GoesOnBehind, HasGoneOn, InHand, IsAtGate, IsNamed, IsQuiet, OpenFault, PassesNext, Reaches, SaysFront, SaysHere, SaysOne, ShipFault, Speaks, Version, file_of, next_entry, next_seal, on, record_of, record_size, record_text, sealed, seen, ship_fault}
+use Rattle.gts_standby.specs.Cited.{Call, Directory, Gives, GoesOnBehind, HasGoneOn, InHand, IsAtGate, IsQuiet, OpenFault, PassesNext, Reaches, SaysFront, SaysHere, SaysOne, ShipFault, Speaks, file_of, next_entry, next_seal, on, record_of, record_size, record_text, sealed, seen, ship_fault}
 use Rattle.gts_record.specs.declared.value.Record.{Record}
 use Rattle.gts_record.specs.Record as texts
 use Rattle.gts_record.specs.declared.fault.OpenFault.TheVariants as opening
 use Rattle.gts_standby.proofs.SayLemmas.{says_none, says_more, fronts_behind, fronts_more}
 use Rattle.gts_standby.proofs.FeedLemmas.{goes_on, all_said, record_stands, no_end, no_fault}
+use Rattle.std.proofs.lemmas.Grind.{common_steps}
 
 -- ---- what a journal answered
 
 pub gone_on : (j next : InHand) (result : Result (Option Record) OpenFault) (o : Option Record) (r : Record) → IfOk result (λ x. HasGoneOn j x next) → result ≡ Ok o → o ≡ Some r → HasGoneOn j (Some r) next
-gone_on j next result o r h is same =
-    subst (λ (x : Option Record). HasGoneOn j x next) same (subst (λ (a : Result (Option Record) OpenFault). IfOk a (λ x. HasGoneOn j x next)) is h)
+gone_on j next result o r h is same = grind (arith, common_steps)
 
 -- a fault that doesn't stand there isn't of the journal's bytes
 pub quiet_entry : (e : OpenFault) (entry : Result (Option texts.Record) OpenFault) → Gives (Err e) entry → ((f : OpenFault) → entry ≡ Err f → ⊥) → IsQuiet (ship_fault e)
@@ -29,26 +29,12 @@ quiet_passed d calls j next end left e at low (inl gives) =
     quiet_entry e (next_entry calls j) gives (λ f is. no_fault j.version d j.file j.seal j.gate (file_of calls j) end left f at is)
 quiet_passed d calls j next end left e at low (inr none) = absurd (no_end j.version d j.file j.seal j.gate (file_of calls j) end left at low none)
 
--- a fault of the opening keeps its name
-pub named_opening : (f : OpenFault) → IsNamed (ship_fault f)
-named_opening opening.DiskFault = tt
-named_opening opening.NoMemory = tt
-named_opening opening.NoJournal = tt
-named_opening opening.OldVersion = tt
-named_opening (opening.NotThis want found) = tt
-named_opening (opening.Damaged file at) = tt
-
 -- ---- one record
 
 -- a journal that went on behind a record reaches the same end, after calls that left its file
 moved : (d : Directory) (old new : List Call) (j next : InHand) (r : Record) (end : ℕ) (rest : List ℕ) → HasGoneOn j (Some r) next → seen new j.file ≡ seen old j.file
     → Reaches j.version d j.file (next_seal j (record_of r)) (j.gate + record_size j.version (record_of r)) (file_of old j) end rest → IsAtGate d new next end rest
-moved d old new j next r end rest gone same it =
-    let by_seal = subst (λ (l : List ℕ). Reaches j.version d j.file l (j.gate + record_size j.version (record_of r)) (file_of old j) end rest) (sym gone.3) it in
-    let by_gate = subst (λ (k : ℕ). Reaches j.version d j.file next.seal k (file_of old j) end rest) (sym gone.2) by_seal in
-    let by_bytes = subst (λ (l : List ℕ). Reaches j.version d j.file next.seal next.gate l end rest) (sym same) by_gate in
-    let by_file = subst (λ (k : ℕ). Reaches j.version d k next.seal next.gate (seen new k) end rest) (sym gone.1) by_bytes in
-    subst (λ (v : Version). Reaches v d next.file next.seal next.gate (file_of new next) end rest) (sym gone.0) by_file
+moved d old new j next r end rest gone same it = grind (arith, common_steps)
 
 pub said_one : {T : Type 0} (result : Result T ShipFault) (d : Directory) (old new : List Call) (j next : InHand) (r : Record) (end : ℕ) (left : List ℕ) → IsAtGate d old j end left
     → next_entry old j ≡ Ok (Some (record_of r)) → HasGoneOn j (Some r) next → Speaks result old new (take (next.gate - (j.gate + 1)) (drop (j.gate + 1) (file_of old j))) → IfErr result IsQuiet

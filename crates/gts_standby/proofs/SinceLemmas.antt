@@ -1,6 +1,6 @@
 -- What of a feed is behind a place.
 use Rattle.std.proofs.Common.{◌≡◌, ◌⊎◌, ℕ, suc, ◌+◌, ◌-◌, ◌<◌, ◌≤◌, Bool, true, false, cond, ◌&&◌, nat_eq, nat_le, List, [], ◌∷◌, length, drop, Option, Some, None, Result, Ok, inl, inr, refl, sym, ap, subst, ◌∙◌, arith, ◌==◌}
-use Rattle.gts_standby.specs.Cited.{Call, Comes, Did, Directory, Finds, HasGoneOn, InHand, IsAtFirst, IsAtGate, IsBefore, Need, OpenFault, Reaches, Read, SaysOnly, SaysRest, ShipFault, Since, StandsOn, State, Syncs, Version, after, begun, behind_at, behind_here, behind_place, checkpoint_opens, compacted_bytes, empty, entry_at, event_of_record, feed, feed_at, feed_of, feed_since, file_of, files_read, first_seal, held, is_at_checkpoint, is_checkpoint, next_entry, open_gate, or_whole, pointwise, record_at, record_of, record_size, record_text, records_at, seal, sealed_at, seen, selected, selected_bytes, ship_fault, since_of, where_so, written}
+use Rattle.gts_standby.specs.Cited.{Call, Comes, Did, Directory, Finds, HasGoneOn, HasOpened, InHand, IsAtFirst, IsAtGate, IsBefore, Need, Reaches, SaysOnly, SaysRest, ShipFault, Since, StandsOn, State, Syncs, Version, after, begun, behind_at, behind_here, behind_place, checkpoint_opens, compacted_bytes, empty, entry_at, event_of_record, feed, feed_at, file_of, files_read, first_seal, held, is_at_checkpoint, is_checkpoint, next_entry, or_whole, pointwise, record_at, record_of, record_size, record_text, records_at, seal, seen, since_of, where_so, written}
 use Rattle.gts_record.specs.declared.value.Record.{Record}
 use Rattle.gts_checkpoint.specs.Reading.{HasRead}
 use Rattle.gts_standby.specs.Since.{behind_checkpoint}
@@ -8,11 +8,10 @@ use Rattle.std.proofs.lemmas.Bool.{le-leb, lt-leb}
 use Rattle.std.proofs.lemmas.Bool.Decides.{nat_tests}
 use Rattle.std.proofs.lemmas.List.{drop-drop}
 use Rattle.gts_record.specs.Record as texts
-use Rattle.gts_record.specs.declared.fault.OpenFault.TheVariants as opening
-use Rattle.gts_standby.specs.declared.fault.ShipFault.TheVariants as fault
 use Rattle.gts_journal.proofs.LawLemmas.{at_mark, at_found, was_found, opens_behind}
 use Rattle.gts_standby.proofs.FeedLemmas.{some_step, end_behind, same_record, no_record, IsEnd, IsRecord, at_entry}
-use Rattle.gts_standby.proofs.FirstLemmas.{by_admission, same_feed, behind_sync, synced_quiet}
+use Rattle.gts_standby.proofs.FirstLemmas.{by_admission, same_feed, same_file, behind_sync, second_quiet, synced_quiet}
+use Rattle.std.proofs.lemmas.Grind.{common_steps}
 
 -- ---- what is found at a gate
 
@@ -32,23 +31,12 @@ apart a b low = grind (arith, nat_tests)
 -- a record in front of the place is passed over
 found_on : (v : Version) (n file gate : ℕ) (before bytes : List ℕ) (place : ℕ) (last : List ℕ) (r : texts.Record) → entry_at v before file gate bytes ≡ Ok (Some r) → gate < place
     → behind_at v (suc n) before gate bytes place last ≡ behind_at v n (seal v before (record_text r)) (gate + record_size v r) (drop (record_size v r) bytes) place last
-found_on v n file gate before bytes place last r is low =
-    let found = was_found v before file gate bytes r is in
-    let there : record_at v before bytes ≡ Some r = ap (record_at v before) found.1 ∙ found.2 in
-    ap (by_place v n before gate bytes place last) (lt-leb place gate low) ∙ ap (by_record v n before gate bytes place last) there
+found_on v n file gate before bytes place last r is low = grind (arith, common_steps, was_found, lt-leb)
 
 -- no record stands behind a gate that isn't open
 none_there : (v : Version) (file gate : ℕ) (before bytes : List ℕ) → entry_at v before file gate bytes ≡ Ok None → record_at v before bytes ≡ None
 none_there v file gate before [] is = refl
-none_there v file gate before (mark ∷ bytes) is = by_mark (mark == open_gate) is
-  where
-    by_mark : (b : Bool) → at_mark v before file gate bytes b ≡ Ok None → elim b as (λ _. Option texts.Record) [ false ↦ None | true ↦ sealed_at v before bytes ] ≡ None
-    by_mark false is = refl
-    by_mark true is = by_found (sealed_at v before bytes) is
-      where
-        by_found : (o : Option texts.Record) → at_found file gate o ≡ Ok None → o ≡ None
-        by_found None is = refl
-        by_found (Some q) is = absurd (let f : Some q ≡ None = cc is in cc f)
+none_there v file gate before (mark ∷ bytes) is = grind (arith, common_steps, at_mark, at_found)
 
 -- ---- a journal that goes on
 
@@ -132,13 +120,7 @@ found_there v d file before gate bytes end place last found it reached = it.foun
 -- a journal that went on behind a record in front of the place
 pub before_on : (d : Directory) (old new : List Call) (j next : InHand) (r : Record) (end place : ℕ) (last : List ℕ) (found : Option (List ℕ)) → IsBefore d old j end place last found
     → next_entry old j ≡ Ok (Some (record_of r)) → HasGoneOn j (Some r) next → j.gate < place → new ≡ old → IsBefore d new next end place last found
-before_on d old new j next r end place last found it entry gone low same =
-    let on = comes_on j.version d j.file j.seal j.gate (file_of old j) end place last found (record_of r) it entry low in
-    let by_seal = subst (λ (l : List ℕ). Comes j.version d j.file l (j.gate + record_size j.version (record_of r)) (file_of old j) end place last found) (sym gone.3) on in
-    let by_gate = subst (λ (k : ℕ). Comes j.version d j.file next.seal k (file_of old j) end place last found) (sym gone.2) by_seal in
-    let by_bytes = subst (λ (l : List ℕ). Comes j.version d j.file next.seal next.gate l end place last found) (sym (ap (λ (calls : List Call). seen calls j.file) same)) by_gate in
-    let by_file = subst (λ (k : ℕ). Comes j.version d k next.seal next.gate (seen new k) end place last found) (sym gone.1) by_bytes in
-    subst (λ (v : Version). Comes v d next.file next.seal next.gate (file_of new next) end place last found) (sym gone.0) by_file
+before_on d old new j next r end place last found it entry gone low same = grind (arith, common_steps, comes_on)
 
 -- at the first gate, without a checkpoint
 pub before_plain : (d : Directory) (old new : List Call) (j : InHand) (end place : ℕ) (last : List ℕ) → IsAtFirst d old j end → is_at_checkpoint j ≡ false → new ≡ old
@@ -206,11 +188,7 @@ finds false d calls j end place last found it reached so =
 
 -- one of two places was reached
 pub reached_one : (place end stop gate : ℕ) → (place ≤ end → stop ≡ place) → (end < place → stop ≡ end) → stop ≤ gate → (place ≤ gate) ⊎ (end ≤ gate)
-reached_one place end stop gate low high reached = by_order (nat_le place end) refl
-  where
-    by_order : (b : Bool) → nat_le place end ≡ b → (place ≤ gate) ⊎ (end ≤ gate)
-    by_order true is = inl (let e : stop ≡ place = low (grind (arith, nat_tests)) in omega (arith, e, reached))
-    by_order false is = inr (let e : stop ≡ end = high (grind (arith, nat_tests)) in omega (arith, e, reached))
+reached_one place end stop gate low high reached = grind (arith, common_steps, nat_tests)
 
 pub finds_there : (is : Bool) (d : Directory) (calls : List Call) (j : InHand) (end place : ℕ) (last : List ℕ) (found : Option (List ℕ)) → IsBefore d calls j end place last found → (place ≤ j.gate) ⊎ (end ≤ j.gate)
     → j.gate ≡ place → is ≡ pointwise nat_eq j.seal last → Finds is d calls j end found
@@ -227,24 +205,9 @@ finds_elsewhere used at d calls j end place last found it reached here there off
 -- ---- what is to be said
 
 -- what was found in the file that was started is what is to be said of the files
-pub same_since : (d : Directory) (old mid new : List Call) (j : InHand) (since : Since) → mid ≡ Did Syncs ∷ old → new ≡ Did Syncs ∷ mid → j.version ≡ written → StandsOn new j
-    → or_whole (feed j.version d.mark (file_of new j)) (behind_here d new j (since.used - 1) (held j.version since.seal)) ≡ since_of d old since
-same_since d old mid new j since first second version stands =
-    let place : selected (seen old) ≡ j.file =
-    ap (λ (calls : List Call). selected (seen calls)) (sym first) ∙ ap (λ (calls : List Call). selected (seen calls)) (sym second) ∙ stands.selected_is in
-    let bytes : file_of new j ≡ selected_bytes (seen old) =
-    ap (λ (calls : List Call). seen calls j.file) second ∙ ap (λ (calls : List Call). seen calls j.file) first ∙ ap (seen old) (sym place) in
-    ap (λ (v : Version). feed_since v d.mark (file_of new j) since.used since.seal) version
-    ∙ ap (λ (l : List ℕ). feed_since written d.mark l since.used since.seal) bytes
-
--- no fault of the journal's opening is one of saying
-pub no_say : (f : OpenFault) → ship_fault f ≡ fault.SayFault → ⊥
-no_say opening.DiskFault is = absurd (cc is)
-no_say opening.NoMemory is = absurd (cc is)
-no_say opening.NoJournal is = absurd (cc is)
-no_say opening.OldVersion is = absurd (cc is)
-no_say (opening.NotThis want found) is = absurd (cc is)
-no_say (opening.Damaged file at) is = absurd (cc is)
+pub same_since : (d : Directory) (old now : List Call) (j : InHand) (end : ℕ) (since : Since) → HasOpened d old now j end
+    → or_whole (feed j.version d.mark (file_of now j)) (behind_here d now j (since.used - 1) (held j.version since.seal)) ≡ since_of d old since
+same_since d old now j end since h = grind (arith, common_steps, same_file)
 
 -- what was found is said, or the whole
 pub or_found : (whole left : List ℕ) (found : Option (List ℕ)) → found ≡ Some left → left ≡ or_whole whole found
@@ -254,36 +217,25 @@ pub or_none : (whole : List ℕ) (found : Option (List ℕ)) → found ≡ None 
 or_none whole found is = sym (ap (or_whole whole) is)
 
 -- where a standby's place was found, what is behind it is what is to be said
-pub rest_since : {T : Type 0} (result : Result T ShipFault) (d : Directory) (old mid now look new : List Call) (j next : InHand) (since : Since) (end : ℕ) (is : Bool) → mid ≡ Did Syncs ∷ old → now ≡ Did Syncs ∷ mid
-    → j.version ≡ written → StandsOn now j → look ≡ now → is ≡ true → Finds is d look next end (behind_here d now j (since.used - 1) (held j.version since.seal))
+pub rest_since : {T : Type 0} (result : Result T ShipFault) (d : Directory) (old now look new : List Call) (j next : InHand) (since : Since) (end : ℕ) (is : Bool) → HasOpened d old now j end
+    → look ≡ now → is ≡ true → Finds is d look next end (behind_here d now j (since.used - 1) (held j.version since.seal))
     → ((left : List ℕ) → IsAtGate d look next end left → SaysRest result look new left) → SaysRest result now new (since_of d old since)
-rest_since result d old mid now look new j next since end is first second version stands told on found says =
-    let sought : Option (List ℕ) = behind_here d now j (since.used - 1) (held j.version since.seal) in
-    let whole : List ℕ = feed j.version d.mark (file_of now j) in
-    let there : Finds true d look next end sought = subst (λ (b : Bool). Finds b d look next end sought) on found in
-    let asked : there.0 ≡ since_of d old since = or_found whole there.0 sought there.2 ∙ same_since d old mid now j since first second version stands in
-    subst (SaysRest result now new) asked (subst (λ (calls : List Call). SaysRest result calls new there.0) told (says there.0 there.1))
+rest_since result d old now look new j next since end is h told on found says = grind (arith, common_steps, or_found, same_since)
 
 -- where it wasn't found, the whole feed is
-pub rest_whole : {T : Type 0} (result : Result T ShipFault) (d : Directory) (old mid now look again new : List Call) (j next whole : InHand) (since : Since) (end : ℕ) (is : Bool) → mid ≡ Did Syncs ∷ old → now ≡ Did Syncs ∷ mid
-    → j.version ≡ written → StandsOn now j → look ≡ now → is ≡ false → Finds is d look next end (behind_here d now j (since.used - 1) (held j.version since.seal)) → again ≡ Did Syncs ∷ look
+pub rest_whole : {T : Type 0} (result : Result T ShipFault) (d : Directory) (old now look again new : List Call) (j next whole : InHand) (since : Since) (end : ℕ) (is : Bool) → HasOpened d old now j end
+    → look ≡ now → is ≡ false → Finds is d look next end (behind_here d now j (since.used - 1) (held j.version since.seal)) → again ≡ Did Syncs ∷ look
     → whole.version ≡ written → StandsOn again whole → SaysRest result again new (feed whole.version d.mark (file_of again whole)) → SaysRest result again new (since_of d old since)
-rest_whole result d old mid now look again new j next whole since end is first second version stands told off found third current on says =
-    let sought : Option (List ℕ) = behind_here d now j (since.used - 1) (held j.version since.seal) in
-    let none : Finds false d look next end sought = subst (λ (b : Bool). Finds b d look next end sought) off found in
-    let synced : again ≡ Did Syncs ∷ now = third ∙ ap (λ (calls : List Call). Did Syncs ∷ calls) told in
-    let asked : feed whole.version d.mark (file_of again whole) ≡ since_of d old since =
-    same_feed d mid now again whole second synced current on ∙ ap (λ (calls : List Call). feed_of d calls) first ∙ sym (same_feed d old mid now j first second version stands)
-    ∙ or_none (feed j.version d.mark (file_of now j)) sought none ∙ same_since d old mid now j since first second version stands in
-    subst (SaysRest result again new) asked says
+rest_whole result d old now look again new j next whole since end is h told off found third current on says =
+    grind (arith, common_steps, same_feed, or_none, same_since)
 
 -- looking says nothing
-pub looked_quietly : (mid now look : List Call) → now ≡ Did Syncs ∷ mid → look ≡ now → SaysOnly mid look []
-looked_quietly mid now look second told = subst (λ (calls : List Call). SaysOnly mid calls []) (sym told) (synced_quiet mid now second)
+pub looked_quietly : (d : Directory) (old now look : List Call) (j : InHand) (end : ℕ) → HasOpened d old now j end → look ≡ now → SaysOnly (Did Syncs ∷ old) look []
+looked_quietly d old now look j end h told = subst (λ (calls : List Call). SaysOnly (Did Syncs ∷ old) calls []) (sym told) (second_quiet d old now j end h)
 
-pub again_quietly : (mid now look again : List Call) → now ≡ Did Syncs ∷ mid → look ≡ now → again ≡ Did Syncs ∷ look → SaysOnly mid again []
-again_quietly mid now look again second told third = behind_sync mid look again [] (looked_quietly mid now look second told) (synced_quiet look again third)
+pub again_quietly : (d : Directory) (old now look again : List Call) (j : InHand) (end : ℕ) → HasOpened d old now j end → look ≡ now → again ≡ Did Syncs ∷ look → SaysOnly (Did Syncs ∷ old) again []
+again_quietly d old now look again j end h told third = behind_sync (Did Syncs ∷ old) look again [] (looked_quietly d old now look j end h told) (synced_quiet look again third)
 
 -- the files read to the same
-pub read_later : (d : Directory) (mid now look : List Call) (x : Read) → now ≡ Did Syncs ∷ mid → look ≡ now → files_read written d (seen mid) ≡ x → files_read written d (seen look) ≡ x
-read_later d mid now look x second told is = ap (λ (calls : List Call). files_read written d (seen calls)) (told ∙ second) ∙ is
+pub read_later : (d : Directory) (old now look : List Call) (j : InHand) (end : ℕ) → (h : HasOpened d old now j end) → look ≡ now → files_read written d (seen look) ≡ Ok (h.state, end + 1, h.last)
+read_later d old now look j end h told = ap (λ (calls : List Call). files_read written d (seen calls)) (told ∙ h.synced) ∙ h.reads

@@ -9,6 +9,7 @@ use Rattle.gts_journal.proofs.LawLemmas.{syncs_silent, syncs_stand, open_selecte
 use Rattle.gts_standby.proofs.FeedLemmas.{leads_on, none_left, left_split}
 use Rattle.gts_standby.proofs.AddLemmas.{holds_of, opened_by, opened_now, read_now, no_begin, added_by}
 use Rattle.gts_standby.proofs.ReadLemmas.{as_before, with_front, images_read, opening_reads}
+use Rattle.std.proofs.lemmas.Grind.{common_steps}
 
 -- ---- at most a sync was tried
 
@@ -31,9 +32,7 @@ opened_kept observed d old new core j syncs o = opened_by observed d o.state new
 -- ---- the feed ends, and nothing is added
 
 no_open : (fault : OpenFault) (end : End) → EndsAs (Open fault) end → ⊥
-no_open fault Ends is = is
-no_open fault (Breaks at) is = is
-no_open fault (Parts index own fed) is = is
+no_open fault _ is = is
 
 module _ (d : Directory) (s : State) (old new : List Call) (j : InHand) (taken : Taken) (left : List ℕ) (f : StandsFor d s old j) (syncs : OnlySyncs old new) where
   quiet : (answer : FollowEnd) → IsTakenEnd answer → (IsEnd answer → ⊥) → HasTaken answer d s (j.gate + 1) j.seal taken old new left
@@ -70,20 +69,14 @@ module _ (d : Directory) (s : State) (old new : List Call) (j : InHand) (taken :
   pub unread_taken : (answer : FollowEnd) → IsReadEnd answer → HasTaken answer d s (j.gate + 1) j.seal taken old new left
   unread_taken SourceFault kind = quiet SourceFault tt (λ e. e)
   unread_taken NoMemory kind = quiet NoMemory tt (λ e. e)
-  unread_taken Done kind = absurd kind
-  unread_taken (Feed at) kind = absurd kind
-  unread_taken (Diverged index own fed) kind = absurd kind
-  unread_taken (Open fault) kind = absurd kind
-  unread_taken DiskFault kind = absurd kind
+  unread_taken _ kind = absurd kind
 
 pub taken_end : (answer : FollowEnd) → IsAddEnd answer → IsTakenEnd answer
 taken_end Done kind = tt
 taken_end (Feed at) kind = tt
 taken_end (Diverged index own fed) kind = absurd kind
 taken_end (Open fault) kind = absurd kind
-taken_end SourceFault kind = tt
-taken_end DiskFault kind = tt
-taken_end NoMemory kind = tt
+taken_end _ kind = tt
 
 -- ---- a journal that begins with a checkpoint
 
@@ -135,16 +128,12 @@ taken_first d s j fed b = cond b (begin_first written d j.seal fed) (add_all wri
 -- no checkpoint stands at the front
 pub plain_taken : (answer : FollowEnd) (d : Directory) (s : State) (j : InHand) (fed : List ℕ) (old new : List Call) (left : List ℕ) → false ≡ is_checkpoint_fed fed → IsAddEnd answer
     → HasAdded answer d s (j.gate + 1) j.seal (add_all written d (length fed) j.seal s j.gate 40 fed) old new left → HasTaken answer d s (j.gate + 1) j.seal (take_records written d s j.gate j.seal [] fed) old new left
-plain_taken answer d s j fed old new left is kind added = record {
-  kind = taken_end answer kind;
-  added = subst (λ (t : Taken). HasAdded answer d s (j.gate + 1) j.seal t old new left) (ap (taken_first d s j fed) is) added;
-}
+plain_taken answer d s j fed old new left is kind added = grind (arith, common_steps, taken_end)
 
 -- one does, and the journal has the seal of its header
 pub checkpoint_taken : (answer : FollowEnd) (d : Directory) (s : State) (j : InHand) (fed : List ℕ) (old new : List Call) (left : List ℕ) → true ≡ is_checkpoint_fed fed → j.seal ≡ first_seal written d.mark
     → HasTaken answer d s (j.gate + 1) j.seal (begun_taken d fed) old new left → HasTaken answer d s (j.gate + 1) j.seal (take_records written d s j.gate j.seal [] fed) old new left
-checkpoint_taken answer d s j fed old new left is first has =
-    subst (λ (t : Taken). HasTaken answer d s (j.gate + 1) j.seal t old new left) (ap (λ (l : List ℕ). begin_first written d l fed) (sym first) ∙ ap (taken_first d s j fed) is) has
+checkpoint_taken answer d s j fed old new left is first has = grind (arith, common_steps)
 
 -- the feed ends at its checkpoint
 pub ends_begun : (answer : FollowEnd) (d : Directory) (s : State) (j : InHand) (fed : List ℕ) (old new : List Call) (left : List ℕ) → StandsFor d s old j → IsAddEnd answer
@@ -221,11 +210,7 @@ module _ (v : Version) (d : Directory) (file : ℕ) (before : List ℕ) (gate : 
   at_its_end = by_steps n reads
 
 pub sound_header : (v : Version) (d : Directory) (file : ℕ) (bytes : List ℕ) (x : State × ℕ × List ℕ) → file_opens v d file bytes ≡ Ok x → header_fault v d.mark file bytes ≡ None
-sound_header v d file bytes x opened = by_fault (header_fault v d.mark file bytes) refl
-  where
-    by_fault : (o : Option OpenFault) → header_fault v d.mark file bytes ≡ o → header_fault v d.mark file bytes ≡ None
-    by_fault None is = is
-    by_fault (Some fault) is = absurd (let one : Read = Err fault in let e : one ≡ Ok x = sym (faulty_header v d file bytes fault is) ∙ opened in cc e)
+sound_header v d file bytes x opened = grind (arith, common_steps, faulty_header)
 
 abbrev by_admission : Directory → ℕ → List ℕ → Need → Bool → Read
 by_admission d file bytes n b = elim b as (λ _. Read) [
@@ -313,9 +298,7 @@ behind_all d s gate last at left = add_all written d (length left) last s gate a
 
 compared_taken : (d : Directory) (s : State) (gate : ℕ) (last fed own : List ℕ) (all rest : List (List ℕ)) → all ≡ own ∷ rest
     → take_records written d s gate last all fed ≡ or_anew d s (begun_taken d fed) (compare_first written d.limit (behind_all d s gate last) all (first_seal written d.mark) fed)
-compared_taken d s gate last fed own all rest is =
-    ap (λ (l : List (List ℕ)). take_records written d s gate last l fed) is
-    ∙ sym (ap (λ (l : List (List ℕ)). or_anew d s (begun_taken d fed) (compare_first written d.limit (behind_all d s gate last) l (first_seal written d.mark) fed)) is)
+compared_taken d s gate last fed own all rest is = grind (arith, common_steps)
 
 abbrev compared_by : Directory → List Call → InHand → List ℕ → (ℕ → List ℕ → Taken) → Taken
 compared_by d calls j fed behind = compare_first written d.limit behind (own_seals d (file_of calls j)) (first_seal written d.mark) fed
@@ -354,30 +337,10 @@ ends_so (Diverged index own fed) (Breaks at) is other ends = absurd is
 ends_so (Diverged zero own fed) (Parts number its other_fed) is other ends = absurd (let e : true ≡ false = other in cc e)
 ends_so (Diverged (suc index) own fed) (Parts zero its other_fed) is other ends = absurd (let e : suc index ≡ 0 = is.0 in cc e)
 ends_so (Diverged (suc index) own fed) (Parts (suc number) its other_fed) is other ends = refl
-ends_so (Open fault) end is other ends = absurd ends
-ends_so SourceFault end is other ends = absurd ends
-ends_so DiskFault end is other ends = absurd ends
-ends_so NoMemory end is other ends = absurd ends
+ends_so _ end is other ends = absurd ends
 
 stops_anew : (answer : FollowEnd) (d : Directory) (s : State) (anew compared : Taken) (left : List ℕ) → is_other answer ≡ false → StopsAs answer compared left → StopsAs answer (or_anew d s anew compared) left
-stops_anew answer d s anew compared left other stops = by_answer answer other stops
-  where
-    by_end : (a : FollowEnd) → is_other a ≡ false → IsEnd a → StopsAt a compared left → StopsAt a (or_anew d s anew compared) left
-    by_end a other ends stops = record {
-      end = stops.end;
-      is = stays d s anew compared (ap (λ (t : Taken). is_other_first t.end) stops.is ∙ ends_so a stops.end stops.ends other ends) ∙ stops.is;
-      ends = stops.ends;
-      all = stops.all;
-    }
-
-    by_answer : (a : FollowEnd) → is_other a ≡ false → StopsAs a compared left → StopsAs a (or_anew d s anew compared) left
-    by_answer Done other stops = by_end Done other tt stops
-    by_answer (Feed at) other stops = by_end (Feed at) other tt stops
-    by_answer (Diverged index own fed) other stops = by_end (Diverged index own fed) other tt stops
-    by_answer (Open fault) other stops = absurd (no_open fault stops.end stops.ends)
-    by_answer SourceFault other stops = tt
-    by_answer DiskFault other stops = tt
-    by_answer NoMemory other stops = tt
+stops_anew answer d s anew compared left other stops = grind (arith, common_steps, stays, ends_so, no_open)
 
 module _ (d : Directory) (s : State) (old mid : List Call) (j : InHand) (fed : List ℕ) (f : StandsFor d s old j) (syncs : OnlySyncs old mid) (low : 40 < j.gate) where
   abbrev comes : Taken
@@ -457,8 +420,7 @@ other_there (Diverged zero own fed) (Parts (suc number) its other_fed) other is 
 -- it begins anew
 pub anew_taken : (answer compared : FollowEnd) (d : Directory) (s : State) (j : InHand) (fed : List ℕ) (end : End) (old new : List Call) (left : List ℕ) → is_other compared ≡ true → EndsAs compared end
     → true ≡ is_further d s (begun_taken d fed) → HasTaken answer d s (j.gate + 1) j.seal (begun_taken d fed) old new left → HasTaken answer d s (j.gate + 1) j.seal (or_anew d s (begun_taken d fed) (stopped end)) old new left
-anew_taken answer compared d s j fed end old new left other is further has =
-    subst (λ (t : Taken). HasTaken answer d s (j.gate + 1) j.seal t old new left) (sym (anew_by d s (begun_taken d fed) end true true (other_there compared end other is) (sym further))) has
+anew_taken answer compared d s j fed end old new left other is further has = grind (arith, common_steps, anew_by, other_there)
 
 -- its checkpoint is behind, or none
 pub behind_taken_over : (compared : FollowEnd) (d : Directory) (s : State) (fed : List ℕ) (end : End) (calls : List Call) (j : InHand) (left : List ℕ) → StandsFor d s calls j → is_other compared ≡ true → EndsAs compared end
@@ -507,29 +469,18 @@ open_no_end (opening.Damaged file at) is = is
 pub open_alone : (e : OpenFault) (old new : List Call) (Unread : Type 0) → OnlySyncs old new → Unread → LeavesAlone (open_end e) old new Unread
 open_alone opening.DiskFault old new Unread told same = tt
 open_alone opening.NoMemory old new Unread told same = tt
-open_alone opening.NoJournal old new Unread told same = (told, same)
-open_alone opening.OldVersion old new Unread told same = (told, same)
-open_alone (opening.NotThis want found) old new Unread told same = (told, same)
-open_alone (opening.Damaged file at) old new Unread told same = (told, same)
+open_alone _ old new Unread told same = (told, same)
 
 -- and where it opens, it isn't refused
 pub taken_alone : (answer : FollowEnd) (old new : List Call) (Unread : Type 0) → IsTakenEnd answer → LeavesAlone answer old new Unread
 taken_alone Done old new Unread kind = tt
 taken_alone (Open fault) old new Unread kind = absurd kind
-taken_alone (Feed at) old new Unread kind = tt
-taken_alone (Diverged index own fed) old new Unread kind = tt
-taken_alone SourceFault old new Unread kind = tt
-taken_alone DiskFault old new Unread kind = tt
-taken_alone NoMemory old new Unread kind = tt
+taken_alone _ old new Unread kind = tt
 
 pub fed_alone : (answer : FollowEnd) (old new : List Call) (Unread : Type 0) → IsFedEnd answer → LeavesAlone answer old new Unread
 fed_alone Done old new Unread kind = tt
 fed_alone (Open fault) old new Unread kind = absurd kind
-fed_alone (Feed at) old new Unread kind = tt
-fed_alone (Diverged index own fed) old new Unread kind = tt
-fed_alone SourceFault old new Unread kind = tt
-fed_alone DiskFault old new Unread kind = tt
-fed_alone NoMemory old new Unread kind = tt
+fed_alone _ old new Unread kind = tt
 
 -- where it opens
 module _ (d : Directory) (old mid : List Call) (j : InHand) (s : State) (fed : List ℕ) (synced : mid ≡ Did Syncs ∷ old) (f : StandsFor d s mid j) where
@@ -573,9 +524,7 @@ module _ (d : Directory) (old mid : List Call) (j : InHand) (s : State) (fed : L
     by_answer (Feed at) kind ends = (ends tt).0
     by_answer (Diverged index own other) kind ends = (ends tt).0
     by_answer (Open fault) kind ends = absurd kind
-    by_answer SourceFault kind ends = tt
-    by_answer DiskFault kind ends = tt
-    by_answer NoMemory kind ends = tt
+    by_answer _ kind ends = tt
 
     pub answers_there : Answers answer (comes_to d (seen old) fed)
     answers_there = subst (Answers answer) (sym comes_there) (by_answer answer has.kind has.added.ends)
@@ -619,13 +568,7 @@ module _ (d : Directory) (old mid : List Call) (j : InHand) (s : State) (fed : L
 
 -- so the files don't open to a fault
 pub opened_there : (d : Directory) (old mid : List Call) (j : InHand) (s : State) (fault : OpenFault) (X : Type 0) → mid ≡ Did Syncs ∷ old → StandsFor d s mid j → files_read written d (seen old) ≡ Err fault → X
-opened_there d old mid j s fault X synced f is =
-    let failed : Read = Err fault in
-    let opened : Read = Ok (s, j.gate + 1, j.seal) in
-    let there : files_read written d (seen old) ≡ Ok (s, j.gate + 1, j.seal) =
-    sym (ap (λ (l : List Call). files_read written d (seen l)) synced) ∙ ap (λ (v : Version). files_read v d (seen mid)) (sym f.current) ∙ f.opens_to in
-    let e : failed ≡ opened = sym is ∙ there in
-    absurd (cc e)
+opened_there d old mid j s fault X synced f is = grind (arith, common_steps)
 
 -- a feed that was taken to its end leaves nothing
 pub done_stops : (answer : FollowEnd) (t : Taken) (left : List ℕ) → StopsAs answer t left → answer ≡ Done → left ≡ []

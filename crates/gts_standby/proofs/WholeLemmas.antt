@@ -1,6 +1,6 @@
 -- At the end of a feed its source has no more.
 use Rattle.std.proofs.Common.{◌≡◌, ◌⊎◌, inl, inr, ℕ, List, ◌++◌, refl, sym, ◌∙◌, subst}
-use Rattle.gts_standby.specs.Cited.{DiskFault, Diverged, Done, Feed, FollowEnd, HasRead, InFeed, IsEnd, IsOwnEnd, IsPutEnd, IsReadEnd, IsUnsealed, IsWhole, NoMemory, Open, OpenFault, ReadsAll, SourceFault, StopsAs, Taken, Version, open_end}
+use Rattle.gts_standby.specs.Cited.{DiskFault, Done, FollowEnd, HasRead, InFeed, IsEnd, IsOwnEnd, IsPutEnd, IsReadEnd, IsUnsealed, IsWhole, OpenFault, ReadsAll, SourceFault, StopsAs, Taken, Version, open_end}
 use Rattle.gts_record.specs.declared.fault.OpenFault.TheVariants as opening
 
 pub whole_read : (ahead : InFeed) (left : List ℕ) → IsWhole ahead left → HasRead (ahead.bytes ++ left) ahead left
@@ -8,39 +8,19 @@ whole_read ahead left whole = record { is = refl; all = whole }
 
 pub stops_all : (answer : FollowEnd) (t : Taken) (left : List ℕ) → StopsAs answer t left → ReadsAll answer left
 stops_all Done t left stops = stops.all
-stops_all (Open fault) t left stops = tt
-stops_all (Feed at) t left stops = tt
-stops_all (Diverged index own fed) t left stops = tt
-stops_all SourceFault t left stops = tt
-stops_all DiskFault t left stops = tt
-stops_all NoMemory t left stops = tt
+stops_all _ t left stops = tt
 
 pub read_all : (answer : FollowEnd) (left : List ℕ) → IsReadEnd answer → ReadsAll answer left
 read_all Done left kind = absurd kind
-read_all (Open fault) left kind = tt
-read_all (Feed at) left kind = tt
-read_all (Diverged index own fed) left kind = tt
-read_all SourceFault left kind = tt
-read_all DiskFault left kind = tt
-read_all NoMemory left kind = tt
+read_all _ left kind = tt
 
 pub own_all : (answer : FollowEnd) (left : List ℕ) → IsOwnEnd answer → ReadsAll answer left
 own_all Done left kind = absurd kind
-own_all (Open fault) left kind = tt
-own_all (Feed at) left kind = tt
-own_all (Diverged index own fed) left kind = tt
-own_all SourceFault left kind = tt
-own_all DiskFault left kind = tt
-own_all NoMemory left kind = tt
+own_all _ left kind = tt
 
 pub put_all : (answer : FollowEnd) (left : List ℕ) → IsPutEnd answer → ReadsAll answer left
 put_all Done left kind = absurd kind
-put_all (Open fault) left kind = tt
-put_all (Feed at) left kind = tt
-put_all (Diverged index own fed) left kind = tt
-put_all SourceFault left kind = tt
-put_all DiskFault left kind = tt
-put_all NoMemory left kind = tt
+put_all _ left kind = tt
 
 pub open_all : (e : OpenFault) (left : List ℕ) → ReadsAll (open_end e) left
 open_all opening.DiskFault left = tt
@@ -52,12 +32,7 @@ open_all (opening.Damaged file at) left = tt
 
 pub looked_all : (answer : FollowEnd) (v : Version) (ahead : InFeed) (at : ℕ) (left : List ℕ) → IsUnsealed answer v ahead at → IsWhole ahead left → ReadsAll answer left
 looked_all Done v ahead at left unsealed whole = whole unsealed.0
-looked_all (Open fault) v ahead at left unsealed whole = tt
-looked_all (Feed place) v ahead at left unsealed whole = tt
-looked_all (Diverged index own fed) v ahead at left unsealed whole = tt
-looked_all SourceFault v ahead at left unsealed whole = tt
-looked_all DiskFault v ahead at left unsealed whole = tt
-looked_all NoMemory v ahead at left unsealed whole = tt
+looked_all _ v ahead at left unsealed whole = tt
 
 -- a feed ends with its end, or with a fault of the disk
 pub finished_all : (P : Type 0) (answer end : FollowEnd) (left : List ℕ) → ((answer ≡ end) × P) ⊎ (answer ≡ DiskFault) → ReadsAll end left → ReadsAll answer left

@@ -32,13 +32,6 @@ IsFedEnd SourceFault = Unit {0}
 IsFedEnd NoMemory = Unit {0}
 IsFedEnd end = ⊥
 
--- what may be answered by the bytes that were read
-abbrev pub IsLookedEnd : FollowEnd → Type 0
-IsLookedEnd Done = Unit {0}
-IsLookedEnd (Feed at) = Unit {0}
-IsLookedEnd NoMemory = Unit {0}
-IsLookedEnd end = ⊥
-
 -- at its end the source has nothing left
 abbrev pub ReadsAll : FollowEnd → List ℕ → Type 0
 ReadsAll Done left = left ≡ []
@@ -109,7 +102,7 @@ Reaches (Err end) reached fed ahead left = IsReadEnd end
 abbrev pub IsUnsealed : FollowEnd → Version → InFeed → ℕ → Type 0
 IsUnsealed Done v ahead at = (ahead.is_all ≡ true) × (may_be_cut v ahead.bytes ≡ true)
 IsUnsealed (Feed place) v ahead at = (place ≡ at) × (ahead.is_all ≡ true → may_be_cut v ahead.bytes ≡ false)
-IsUnsealed end v ahead at = Unit {0}
+IsUnsealed end v ahead at = ⊥
 
 -- how many circuits and bulletins a checkpoint has by its first bytes, or that none begins so
 abbrev pub FindsFront : Option (ℕ × ℕ) → List ℕ → Type 0

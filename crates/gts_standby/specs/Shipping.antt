@@ -1,6 +1,6 @@
 -- What is said of a feed.
 use Rattle.std.specs.Prelude.{◌≡◌, ◌⊎◌, ℕ, ◌+◌, ◌≤◌, List, ◌∷◌, ◌++◌, length, drop, Result, Ok, Err, None}
-use Rattle.gts_standby.specs.Cited.Below.{Call, Did, Directory, InHand, Need, OnlySyncs, OpenFault, SaysFront, SaysOnly, StandsOn, State, Syncs, Version, file_of, file_opens, first_seal, header_fault, is_at_checkpoint, is_checkpoint, on, opens, records_at, seen, selected_bytes, written}
+use Rattle.gts_standby.specs.Cited.Below.{Call, Did, Directory, InHand, Need, OnlySyncs, OpenFault, SaysFront, SaysOnly, StandsOn, State, Syncs, Version, file_of, file_opens, files_read, first_seal, header_fault, is_at_checkpoint, is_checkpoint, on, opens, records_at, seen, selected_bytes, written}
 use Rattle.gts_record.specs.declared.fault.OpenFault.TheVariants as opening
 use Rattle.gts_standby.specs.declared.fault.ShipFault.{ShipFault}
 use Rattle.gts_standby.specs.declared.fault.ShipFault.TheVariants.{Open, DiskFault, NoMemory}
@@ -75,6 +75,16 @@ pub record IsAtFirst (d : Directory) (calls : List Call) (j : InHand) (end : ℕ
   pub then : State
   pub last : List ℕ
   pub opens : file_opens j.version d j.file (file_of calls j) ≡ Ok (then, end + 1, last)
+
+-- The files opened, and were synced twice. A journal stands at its first gate, and its records come to a closed gate at this place.
+pub record HasOpened (d : Directory) (old new : List Call) (j : InHand) (end : ℕ) : Type 0 where
+  pub state : State
+  pub last : List ℕ
+  pub reads : files_read written d (seen old) ≡ Ok (state, end + 1, last)
+  pub synced : new ≡ Did Syncs ∷ Did Syncs ∷ old
+  pub version : j.version ≡ written
+  pub stands : StandsOn new j
+  pub first : IsAtFirst d new j end
 
 -- what of the journal's file is sent behind its header
 abbrev pub behind_header : Directory → List Call → InHand → List ℕ

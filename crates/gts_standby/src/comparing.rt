@@ -64,7 +64,6 @@ fn own_first<P: Station>(
 
 /// The first record of a feed: its size with its seal, and that.
 fn fed_first<S: Source>(
-    alloc: Global,
     source: &mut S,
     ahead: &mut Ahead,
     limit: u64,
@@ -83,7 +82,7 @@ fn fed_first<S: Source>(
     if is_at_checkpoint(source, ahead)? {
         fed_checkpoint(source, ahead, limit, version, before)
     } else {
-        fed_record(alloc, source, ahead, version, before, HEADER as u64)
+        fed_record(source, ahead, version, before, HEADER as u64)
     }
 }
 
@@ -117,7 +116,7 @@ fn compare_first<P: Station, S: Source>(
     let version = own.version();
     let before = own.seal();
     let limit = directory.limit();
-    let (size, fed) = fed_first(alloc, source, ahead, limit, version, &before)?;
+    let (size, fed) = fed_first(source, ahead, limit, version, &before)?;
     own_first(alloc, station, directory, own)?;
     let seal = own.seal();
     if !is_same(version, &seal, &fed) {
@@ -133,7 +132,6 @@ fn compare_first<P: Station, S: Source>(
 
 /// Compares a further record of a feed with the journal's, and answers its size.
 fn compare_next<P: Station, S: Source>(
-    alloc: Global,
     station: &mut P,
     own: &mut Journal,
     source: &mut S,
@@ -160,7 +158,7 @@ fn compare_next<P: Station, S: Source>(
 {
     let version = own.version();
     let before = own.seal();
-    let (size, fed) = fed_record(alloc, source, ahead, version, &before, at)?;
+    let (size, fed) = fed_record(source, ahead, version, &before, at)?;
     pass_next(station, own)?;
     let seal = own.seal();
     if !is_same(version, &seal, &fed) {
@@ -177,7 +175,6 @@ fn compare_next<P: Station, S: Source>(
 /// Compares the further records of a journal, up to the gate at a place, with those of a feed from a place on, and answers the
 /// place in the feed behind them.
 fn compare_rest<P: Station, S: Source>(
-    alloc: Global,
     station: &mut P,
     own: &mut Journal,
     end: u64,
@@ -205,7 +202,7 @@ fn compare_rest<P: Station, S: Source>(
     let mut index = 1;
     let mut at = at;
     while own.used() < end {
-        let size = compare_next(alloc, station, own, source, ahead, index, at)?;
+        let size = compare_next(station, own, source, ahead, index, at)?;
         at += size as u64;
         index += 1;
     }
@@ -241,5 +238,5 @@ pub(crate) fn compare<P: Station, S: Source>(
     let mut own = Journal::start(alloc, station, directory.mark())?;
     let size = compare_first(alloc, station, directory, &mut own, source, ahead)?;
     let at = HEADER as u64 + size as u64;
-    compare_rest(alloc, station, &mut own, end, source, ahead, at)
+    compare_rest(station, &mut own, end, source, ahead, at)
 }

@@ -77,7 +77,7 @@ impl Gathering {
                 ahead.pass(size);
                 Ok(size)
             }
-            None => Err(end_at(alloc, version, ahead, at)),
+            None => Err(end_at(version, ahead, at)),
         }
     }
 

@@ -1,6 +1,6 @@
 //! The checkpoint at the front of a feed's records: how long it is, and its seal.
-ghost use Rattle.std.specs.Prelude.{◌≡◌, ◌≤◌, ◌<◌, ◌+◌, ◌*◌, ◌^◌, ℕ, List, length, replicate, Some, None, IfOk, IfSome, IfErr};
-ghost use Rattle.gts_standby.specs.Cited.{AsksFeed, FindsFront, FindsPiece, HasRead, IsFedEnd, IsReadEnd, behind_listed, held, listed_size, seal_size};
+ghost use Rattle.std.specs.Prelude.{◌≡◌, ◌≤◌, ◌<◌, ◌+◌, ◌*◌, ◌^◌, ℕ, List, length, take, drop, replicate, Some, None, IfOk, IfSome, IfErr};
+ghost use Rattle.gts_standby.specs.Cited.{AsksFeed, FindsFront, FindsPiece, HasRead, IsFedEnd, IsReadEnd, behind_listed, bytes_of, held, listed_size, seal_size};
 ghost use Rattle.gts_standby.specs.Reading.{Reaches};
 ghost use Rattle.gts_standby.specs.Taking as feeds;
 
@@ -28,9 +28,10 @@ const HEAD: usize = 16;
 const FRONT: usize = 20;
 
 /// The number in four bytes from a place on.
-fn number_at(bytes: &[u8], at: usize) -> usize
+pub(crate) fn number_at(bytes: &[u8], at: usize) -> usize
     requires { at + 4 ≤ length bytes.now }
     ensures value { result ≡ feeds.number_at bytes.now at }
+    ensures written { bytes_of 4 result ≡ take 4 (drop at bytes.now) }
     ensures bound { result < 2 ^ 32 }
 {
     let mut four = [0u8; 4];
@@ -39,7 +40,7 @@ fn number_at(bytes: &[u8], at: usize) -> usize
 }
 
 /// So many bytes from a place on, as far as they are there, put over those of a text.
-fn put_over(text: &mut [u8], bytes: &[u8], at: usize)
+pub(crate) fn put_over(text: &mut [u8], bytes: &[u8], at: usize)
     ensures { text.new ≡ feeds.or_else text.old bytes.now at }
 {
     let start = bytes.len().min(at);

@@ -1,5 +1,5 @@
-ghost use Rattle.std.specs.Prelude.{◌≡◌, ◌<◌, ◌^◌, false, IfErr, OnOk};
-ghost use Rattle.gts_standby.specs.Cited.{AsksToShip, IsAtFirst, IsNamed, IsShipFault, OnlySyncsUnopened, SaysOne, SaysRest, ShipsOnly, StandsOn, behind_header, feed, feed_of, file_of, since_of};
+ghost use Rattle.std.specs.Prelude.{◌≡◌, ◌<◌, ◌^◌, ℕ, false, List, IfOk, IfErr, OnOk};
+ghost use Rattle.gts_standby.specs.Cited.{AsksToShip, HasOpened, IsAtFirst, IsNamed, IsShipFault, OnlySyncsUnopened, SaysOne, SaysRest, ShipsOnly, StandsOn, behind_header, feed, feed_of, file_of, since_of};
 
 use crate::ShipFault;
 use crate::piece::say_part;
@@ -70,6 +70,30 @@ fn say_feed<P: Station>(
     say_records(station, &mut journal, end)
 }
 
+/// Opens a journal, and starts it again at its first gate. Answers it, and the place of the closed gate behind its records.
+fn open_first<P: Station>(
+    alloc: Global,
+    station: &mut P,
+    directory: &Directory,
+) -> Result<(Journal, u64), ShipFault>
+    ensures opened { P.observed → IfOk result (λ found. HasOpened directory.now
+        (P.calls station.old) (P.calls station.new) found.0 found.1) }
+    ensures going { IfOk result (λ found. found.0.ended ≡ false) }
+    ensures room { IfOk result (λ found. found.1 < 2 ^ 40) }
+    ensures fault { P.observed → IfErr result (λ e. (bytes : List ℕ) →
+        IsShipFault e directory.now (P.calls station.old) (P.calls station.new) bytes) }
+    ensures unopened { P.observed → IfErr result (λ _.
+        OnlySyncsUnopened directory.now (P.calls station.old) (P.calls station.new)) }
+    ensures named { IfErr result IsNamed }
+    ensures cause { AsksToShip P.Station result station.old station.new }
+{
+    // A limit is low enough for the places of gates.
+    directory.bounds_hold();
+    let end = open_core(alloc, station, directory)?.1.used() - 1;
+    let journal = Journal::start(alloc, station, directory.mark())?;
+    Ok((journal, end))
+}
+
 /// Says the feed of the selected file on channel 0, in pieces: the header, and each record behind an open gate with its seal. The
 /// journal is opened first. Files are only read and synced. It takes memory for what the journal opens to.
 pub fn ship<P: Station>(
@@ -93,10 +117,7 @@ pub fn ship<P: Station>(
     ensures named { IfErr result IsNamed }
     ensures cause { AsksToShip P.Station result station.old station.new }
 {
-    // A limit is low enough for the places of gates.
-    directory.bounds_hold();
-    let end = open_core(alloc, station, directory)?.1.used() - 1;
-    let journal = Journal::start(alloc, station, directory.mark())?;
+    let (journal, end) = open_first(alloc, station, directory)?;
     say_feed(alloc, station, directory, journal, end)
 }
 
@@ -126,10 +147,7 @@ pub fn ship_since<P: Station>(
     ensures named { IfErr result IsNamed }
     ensures cause { AsksToShip P.Station result station.old station.new }
 {
-    // A limit is low enough for the places of gates.
-    directory.bounds_hold();
-    let closed = open_core(alloc, station, directory)?.1.used() - 1;
-    let mut journal = Journal::start(alloc, station, directory.mark())?;
+    let (mut journal, closed) = open_first(alloc, station, directory)?;
     if look_for(alloc, station, directory, &mut journal, closed, since)? {
         return say_records(station, &mut journal, closed);
     }

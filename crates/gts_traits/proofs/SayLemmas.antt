@@ -1,8 +1,10 @@
 -- What was said in pieces. For the proofs of crates above too.
-use Rattle.std.proofs.Common.{◌≡◌, ℕ, List, [], ◌∷◌, ◌++◌, Result, Ok, Err, inl, inr, refl, sym, ap, ◌∙◌}
+use Rattle.std.proofs.Common.{◌≡◌, ℕ, List, [], ◌∷◌, ◌++◌, Result, Ok, Err, inl, inr, refl, ap, ◌∙◌}
 use Rattle.std.proofs.lemmas.List.{append_assoc}
 use Rattle.gts_traits.specs.Cited.{Broken, Call, Did, EachTouchesNone, Outside, Says, SaysFront, SaysOnly, Tells, TouchesNone, Tries, WritesNothing, on, said_by, seen}
 use Rattle.gts_traits.proofs.OutsideLemmas.{on-append, SaidSince-refl, SaidSince-trans, SaidSince-from_say}
+use Rattle.std.proofs.lemmas.Grind.{common_steps}
+use Rattle.std.proofs.Common.{arith}
 
 each_untouched : (xs ys : List Call) → EachTouchesNone xs → EachTouchesNone ys → EachTouchesNone (xs ++ ys)
 each_untouched [] ys first second = second
@@ -12,11 +14,7 @@ pub untouched_none : (calls : List Call) → WritesNothing calls calls
 untouched_none calls = record { since = []; is = refl; each = tt }
 
 pub untouched_more : (a b c : List Call) → WritesNothing a b → WritesNothing b c → WritesNothing a c
-untouched_more a b c first second = record {
-  since = second.since ++ first.since;
-  is = second.is ∙ ap (λ (calls : List Call). second.since ++ calls) first.is ∙ sym (append_assoc second.since first.since a);
-  each = each_untouched second.since first.since second.each first.each;
-}
+untouched_more a b c first second = grind (arith, common_steps, append_assoc, each_untouched)
 
 -- one call that touches no file
 pub untouched_call : (old new : List Call) (call : Call) → TouchesNone call → new ≡ call ∷ old → WritesNothing old new
@@ -29,25 +27,13 @@ pub said_none : (calls : List Call) → SaysOnly calls calls []
 said_none calls = record { said = SaidSince-refl calls; files = λ file. refl; untouched = untouched_none calls }
 
 pub said_more : (a b c : List Call) (x y : Outside) → SaysOnly a b x → SaysOnly b c y → SaysOnly a c (x ++ y)
-said_more a b c x y first second = record {
-  said = SaidSince-trans a b c x y first.said second.said;
-  files = λ file. second.files file ∙ first.files file;
-  untouched = untouched_more a b c first.untouched second.untouched;
-}
+said_more a b c x y first second = grind (arith, common_steps, SaidSince-trans, untouched_more)
 
 pub front_behind : (a b c : List Call) (x y : Outside) → SaysOnly a b x → SaysFront b c y → SaysFront a c (x ++ y)
-front_behind a b c x y first second = record {
-  left = x ++ second.left;
-  front = (second.front.0, ap (λ (z : Outside). x ++ z) second.front.1 ∙ sym (append_assoc x second.left second.front.0));
-  said = said_more a b c x second.left first second.said;
-}
+front_behind a b c x y first second = grind (arith, common_steps, append_assoc, said_more)
 
 pub front_more : (a b : List Call) (x more : Outside) → SaysFront a b x → SaysFront a b (x ++ more)
-front_more a b x more f = record {
-  left = f.left;
-  front = (f.front.0 ++ more, ap (λ (z : Outside). z ++ more) f.front.1 ∙ append_assoc f.left f.front.0 more);
-  said = f.said;
-}
+front_more a b x more f = grind (arith, common_steps, append_assoc)
 
 -- a say of bytes on a channel
 pub tells_try : {T E : Type 0} (result : Result T E) (channel : ℕ) (bytes : List ℕ) (old new : List Call) → Tries (Says channel bytes) result old new

@@ -48,11 +48,11 @@ pub use Rattle.gts_report.specs.Cited.{changes, report}
 pub use Rattle.gts_replay.specs.Cited.{BreaksAtCompaction, BreaksAtRestart, Ends, HasDone, HasReplayCause, IsUnbegun, IsUnfailed, Remains, StandsFor, compacted_at, compactions_at, entries_at, origin_at, origin_behind}
 pub use Rattle.gts_replay.specs.declared.end.ReplayEnd.{ReplayEnd}
 pub use Rattle.gts_generate.specs.Cited.{IsFullOn, day_summary}
-pub use Rattle.gts_standby.specs.Cited.{Answers, EachImageReads, EachOpens, EndsAs, IsEnd, IsNamed, IsNamedEnd, IsShipFault, LeavesAlone, LeavesUnopened, OnlySyncsUnopened, SaysFrontSynced, ShipsOnly, asked_of, comes_to, own_seals, read_after, state_after, taken}
+pub use Rattle.gts_standby.specs.Cited.{Answers, AsksToShip, EachImageReads, EachOpens, EndsAs, HasEndCounts, IsEnd, IsNamed, IsNamedEnd, IsShipFault, LeavesAlone, LeavesUnopened, OnlySyncsUnopened, SaysFrontSynced, ShipsOnly, asked_of, comes_to, own_seals, read_after, state_after, taken}
 pub use Rattle.gts_standby.specs.declared.end.FollowEnd.{FollowEnd}
 pub use Rattle.gts_standby.specs.declared.fault.ShipFault.{ShipFault}
 pub use Rattle.gts_standby.specs.declared.since.Since.{Since}
-pub use Rattle.gts_accum.specs.Cited.{HasReadCause, HasSayCause, HasUnpackCause, IsBad, IsEndAt, IsEndOf, IsLeft, IsTaken, IsUnfailedFile, Packs, SameFiles, bad_in_stream, badplace, captured, packed}
+pub use Rattle.gts_accum.specs.Cited.{CountsPack, HasUnpackCause, IsBad, IsEndAt, IsEndOf, IsLeft, IsTaken, IsUnfailedFile, Packs, SameFiles, bad_in_stream, badplace, captured, packed}
 pub use Rattle.gts_accum.specs.declared.end.UnpackEnd.{UnpackEnd}
 pub use Rattle.gts_accum.specs.declared.end.UnpackEnd.TheVariants.{Bad, Ended}
 pub use Rattle.gts_accum.specs.declared.pack_end.PackEnd.{PackEnd}

@@ -12,6 +12,7 @@ use std::alloc::Global;
 /// Reads the directory, and then the old one, from which it has to take over, opens the journal under that one, and says on channel 0
 /// what would change if it were taken over, and whether `migrate` would refuse it. The files are synced, and not changed.
 /// Where the directory is at fault, the old one isn't read.
+#[tactic(auto, using(crate::proofs::SoundLemmas::unread, crate::proofs::SoundLemmas::old_unread))]
 pub fn check<S: Source, P: Station>(alloc: Global, world: &mut World<S, S, P>) -> Status
     ensures tries { TriesMigration S.Source P.Station result world.old world.new }
     ensures sound { result ≡ Status.Done → NoneFailed S.Source P.Station world.old world.new }

@@ -26,6 +26,7 @@ fn status_of(end: FollowEnd) -> Status
 
 /// Reads the directory, opens the journal, and takes the feed of another station's journal into it: what both have is compared,
 /// and what the own one doesn't have is checked and appended. Nothing is said.
+#[tactic(auto, using(crate::proofs::SoundLemmas::unread))]
 pub fn follow<S: Source, P: Station>(alloc: Global, mut world: World<S, S, P>) -> Ended<S, P>
     ensures follows { FollowsFeed S.Source P.Station result.status world result.world }
     ensures sound { result.status ≡ Status.Done

@@ -23,6 +23,7 @@ fn status_of(end: GapsEnd) -> Status
 
 /// Reads the directory, and then a capture through its end, and says which numbers are missing on each circuit, and the requests
 /// for them: lines on channel 0, the request of circuit c on channel c + 1. The files of the journal are not looked at.
+#[tactic(auto, using(crate::proofs::SoundLemmas::unread))]
 pub fn gaps<S: Source, P: Station>(
     alloc: Global,
     world: &mut World<S, S, P>,

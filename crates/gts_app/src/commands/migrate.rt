@@ -31,6 +31,7 @@ fn status_of(migrated: Result<(), MigrateFault>) -> Status
 /// Reads the directory, and then the old one, from which it has to take over, and takes the journal of that one over. What waits
 /// on circuits that are closed in the new directory is refused, and nothing is said; or it is dropped, and its receipts are said.
 /// Where the directory is at fault, the old one isn't read.
+#[tactic(auto, using(crate::proofs::SoundLemmas::unread, crate::proofs::SoundLemmas::old_unread))]
 pub fn migrate<S: Source, P: Station>(
     alloc: Global,
     mut world: World<S, S, P>,

@@ -23,6 +23,7 @@ fn status_of(end: PackEnd) -> Status
 
 /// Reads the directory, and then a stream of frames, and says the file of its messages on channel 0. The files of the journal
 /// are not looked at.
+#[tactic(auto, using(crate::proofs::SoundLemmas::unread))]
 pub fn pack<S: Source, P: Station>(alloc: Global, world: &mut World<S, S, P>) -> Status
     ensures packs { PacksStream S.Source P.Station result world.old world.new }
     ensures sound { result ≡ Status.Done → NoneFailed S.Source P.Station world.old world.new }

@@ -25,6 +25,7 @@ fn status_of(shipped: Result<(), ShipFault>) -> Status
 
 /// Reads the directory, opens the journal, and says its feed on channel 0, for a standby station: all of it, or what is behind
 /// what that station has. The files are synced, and not changed.
+#[tactic(auto, using(crate::proofs::SoundLemmas::unread))]
 pub fn ship<S: Source, P: Station>(
     alloc: Global,
     world: &mut World<S, S, P>,

@@ -24,6 +24,7 @@ fn status_of(end: UnpackEnd) -> Status
 
 /// Reads the directory, which must have circuit `c`, opens the journal, and then reads a file of accumulated bulletins, and does
 /// what `replay` does with the capture that it stands for: each message comes on that circuit over a connection of its own.
+#[tactic(auto, using(crate::proofs::SoundLemmas::unread))]
 pub fn unpack<S: Source, P: Station>(
     alloc: Global,
     mut world: World<S, S, P>,

@@ -1,4 +1,4 @@
-use Rattle.std.proofs.Common.{◌++◌, ℕ, List, take, Result, Err, Ok, subst, ◌∙◌, append_assoc, arith, rules}
+use Rattle.std.proofs.Common.{◌≤◌, ◌++◌, ℕ, List, take, Result, Err, Ok, subst, ◌∙◌, append_assoc, arith, rules}
 use Rattle.std.proofs.lemmas.List.{length-append, length-take-le}
 use Rattle.std.proofs.lemmas.Grind.{common_steps}
 use Rattle.gts_accum.specs.Cited.{Failed, Stands, Tells, entries_text, messages_of, on, signs_of_step}
@@ -10,8 +10,8 @@ returns-in-Lost-clause-ends g c = λ first before here stands more.
     let taken = c.loop-rest.invariant.taken in
     let n : ℕ = c.take-count.result.0 in
     let rest : List ℕ = c.loop-rest.rest.now in
-    let is : IsStep rest n c.take-count.result.1 c.loop-rest.decoder c.take-count.new.self =
-    record { count = c.take-count.ensures.count; some = first_of (search rules, grind (arith, common_steps)); makes = c.take-count.ensures.step; after = c.take-count.ensures.after; reads = c.take-count.ensures.reads } in
+    let some : 1 ≤ n = first_of (search rules, grind (arith, common_steps)) in
+    let is : IsStep rest n c.take-count.result.1 c.loop-rest.decoder c.take-count.new.self = search rules in
     piece_lost g.P.Station.observed first (g.P.Station.calls c.loop-rest.station) before taken.0 rest c.args.piece.now more c.args.start c.loop-rest.at n c.take-count.result.1 c.in-Lost.field-0
     c.loop-rest.decoder c.take-count.new.self (taken.3 first before stands) is c.in-Lost.is taken.1 taken.2 here c.requires
 
@@ -21,8 +21,8 @@ returns-in-Err-clause-ends g c = λ first before here stands more.
     let n : ℕ = c.take-count.result.0 in
     let rest : List ℕ = c.loop-rest.rest.now in
     let next = c.take-count.new.self in
-    let is : IsStep rest n c.take-count.result.1 c.loop-rest.decoder next =
-    record { count = c.take-count.ensures.count; some = first_of (search rules, grind (arith, common_steps)); makes = c.take-count.ensures.step; after = c.take-count.ensures.after; reads = c.take-count.ensures.reads } in
+    let some : 1 ≤ n = first_of (search rules, grind (arith, common_steps)) in
+    let is : IsStep rest n c.take-count.result.1 c.loop-rest.decoder next = search rules in
     let T : List ℕ → Result (Unit {0}) Failed → Type 0 = λ m r. Tells r (on 0 (entries_text (messages_of (signs_of_step c.take-count.result.1 m)))) (g.P.Station.calls c.loop-rest.station) (g.P.Station.calls c.say_step.new.station) in
     piece_unsaid g.P.Station.observed first (g.P.Station.calls c.loop-rest.station) (g.P.Station.calls c.say_step.new.station) before taken.0 rest c.args.piece.now more c.args.start n c.take-count.result.1
     c.loop-rest.decoder next (taken.3 first before stands) is taken.1 here c.requires
@@ -34,8 +34,8 @@ loop-rest-preserved g c =
     let n : ℕ = c.take-count.result.0 in
     let rest : List ℕ = c.loop-rest.rest.now in
     let next = c.take-count.new.self in
-    let is : IsStep rest n c.take-count.result.1 c.loop-rest.decoder next =
-    record { count = c.take-count.ensures.count; some = first_of (search rules, grind (arith, common_steps)); makes = c.take-count.ensures.step; after = c.take-count.ensures.after; reads = c.take-count.ensures.reads } in
+    let some : 1 ≤ n = first_of (search rules, grind (arith, common_steps)) in
+    let is : IsStep rest n c.take-count.result.1 c.loop-rest.decoder next = search rules in
     let T : List ℕ → Result (Unit {0}) Failed → Type 0 = λ m r. Tells r (on 0 (entries_text (messages_of (signs_of_step c.take-count.result.1 m)))) (g.P.Station.calls c.loop-rest.station) (g.P.Station.calls c.say_step.new.station) in
     record {
       taken = (

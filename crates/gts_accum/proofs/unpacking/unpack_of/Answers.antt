@@ -1,10 +1,11 @@
-use Rattle.std.proofs.Common.{ℕ, ◌≤◌, List, length, sym, ap, subst, ◌∙◌, arith}
-use Rattle.gts_replay.specs.Cited.{Ends, IsUnfailed}
+use Rattle.std.proofs.Common.{ℕ, ◌≤◌, List, length, sym, ap, subst, arith}
+use Rattle.gts_replay.specs.Cited.{Ends}
 use Rattle.gts_event.specs.declared.event.Entry.{Entry}
-use Rattle.gts_accum.specs.Cited.{HasReplayCause, HasUnpackCause, IsLeft, IsPlaceMet, Journaled, ReplayEnd, StandsFor, UnpackEnd, Unpacks, badplace, capture_left, captured}
+use Rattle.gts_accum.specs.Cited.{IsLeft, IsPlaceMet, Journaled, ReplayEnd, StandsFor, UnpackEnd, Unpacks, badplace, capture_left, captured}
 use Rattle.gts_accum.proofs.UnpackLemmas.{from-end, from-cut, cause-end, cause-cut}
 use Rattle.gts_accum.proofs.unpacking.unpack_of.Goals as goal
 use Rattle.gts_accum.proofs.unpacking.unpack_of.Goals.{in-Capture, in_default}
+use Rattle.std.proofs.lemmas.Grind.{common_steps}
 
 pub returns-clause-ends : goal.returns-clause-ends
 returns-clause-ends g c =
@@ -41,26 +42,4 @@ returns-clause-ends g c =
     ]
 
 pub returns-clause-cause : goal.returns-clause-cause
-returns-clause-cause g c =
-    let faults = g.S.Source.faults in
-    let disk = g.W.Switch.disk_faults in
-    let say = g.W.Switch.say_faults in
-    let old = c.args.switch.now in
-    let new = c.replay.new.switch in
-    let before : ℕ = faults c.args.file in
-    let P : g.row.S.Denot → Type 0 = λ s. HasReplayCause c.replay.result (disk c.args.switch.now) (disk c.replay.new.switch) (say c.args.switch.now) (say c.replay.new.switch) (faults s) (faults c.replay.new.capture.source) in
-    let run = subst P c.new-traced.ensures.source c.replay.ensures.cause in
-    let Q : UnpackEnd → g.row.S.Denot → Type 0 = λ e s. HasUnpackCause e (disk c.args.switch.now) (disk c.replay.new.switch) (say c.args.switch.now) (say c.replay.new.switch) before (faults s) in
-    let A : g.row.S.Denot → Type 0 = λ s. Q c.match-replay.end s in
-    elim c.match-replay.branch as (λ _. A c.into_inner.result) [
-      | in-Capture w ↦
-          let B : UnpackEnd → Type 0 = λ e. Q e w.end_of_file-end.new.traced.source in
-          subst A (sym (c.into_inner.ensures.source ∙ ap (λ t. t.source) w.traced-is))
-          (subst B (sym w.end-is)
-          (cause-cut c.replay.result w.end_of_file-end.result _ _ _ _ before (faults c.replay.new.capture.source) (faults w.end_of_file-end.new.traced.source) run
-          (subst IsUnfailed (sym w.in-Capture.is) tt) w.end_of_file-end.ensures.kind w.end_of_file-end.ensures.cause))
-      | in_default w ↦
-          let B : UnpackEnd → Type 0 = λ e. Q e c.replay.new.capture.source in
-          subst A (sym (c.into_inner.ensures.source ∙ ap (λ t. t.source) w.traced-is))
-          (subst B (sym w.end-is) (cause-end c.replay.result _ _ _ _ before (faults c.replay.new.capture.source) run))
-    ]
+returns-clause-cause g c = grind (arith, common_steps, cause-cut, cause-end)

@@ -3,25 +3,10 @@ use Rattle.gts_calls.specs.Cited.{All, Entry, FeedEnd, GoesFed, GoesOver, HasCal
 use Rattle.gts_calls.proofs.OverLemmas.{Held, held_first, held_more, goes_first, goes_more, caused_later, is_that}
 use Rattle.gts_calls.proofs.ReadingLemmas.{slice_from, taken_more}
 use Rattle.gts_calls.proofs.feeding.feed_behind.Goals as goal
+use Rattle.std.proofs.lemmas.Grind.{common_steps}
 
 pub loop-taken-init : goal.loop-taken-init
-loop-taken-init g c =
-    let meanings = g.W.Listens.meanings in
-    let e = c.deal-end.ensures in
-    let begun : List ℕ = take c.args.begun c.args.piece.now in
-    let start = c.args.decoder.now in
-    let F : List ℕ → (o : g.W.Listens.Origin) (first : ℕ) (h : List Entry) → Type 0 = λ message o first h.
-    GoesFed meanings o first h c.args.c (events_of_signs c.args.c (signs_of_step c.args.step message)) message c.deal-end.result c.deal-end.new.switch in
-    record {
-      least = omega arith;
-      most = c.requires.within;
-      held = held_first begun c.args.step start c.deal-end.result e.ends;
-      goes = goes_first meanings c.args.c begun c.args.step start c.args.switch.now c.deal-end.result c.deal-end.new.switch
-          (λ o first h s. subst (λ (m : List ℕ). F m o first h) c.message.ensures (e.goes o first h s));
-      short = subst (λ (m : List ℕ). IsShortAt c.deal-end.result m) c.message.ensures e.short;
-      directory = e.directory;
-      cause = e.cause;
-    }
+loop-taken-init g c = grind (arith, common_steps, held_first, goes_first)
 
 pub loop-taken-preserved : goal.loop-taken-preserved
 loop-taken-preserved g c =

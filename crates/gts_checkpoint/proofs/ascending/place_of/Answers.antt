@@ -1,16 +1,13 @@
-use Rattle.std.proofs.Common.{◌+◌, ◌-◌, ◌/◌, length, Some, ap, ◌∙◌, arith}
+use Rattle.std.proofs.Common.{◌+◌, ◌-◌, ◌/◌, arith}
 use Rattle.std.proofs.lemmas.Option.{slice_get-get_or}
 use Rattle.gts_checkpoint.specs.Sound.{positions}
 use Rattle.gts_event.proofs.AmongLemmas.{has_not}
 use Rattle.gts_checkpoint.proofs.AscendingLemmas.{position-at, positions-length, below-half, above-half, found_none}
 use Rattle.gts_checkpoint.proofs.ascending.place_of.Goals as goal
+use Rattle.std.proofs.lemmas.Grind.{common_steps}
 
 pub returns-then-here-position-clause-found : goal.returns-then-here-position-clause-found
-returns-then-here-position-clause-found c =
-    let bs = c.args.bulletins.now in
-    let m = c.loop-low.low + (c.loop-low.high - c.loop-low.low) / 2 in
-    let here = position-at bs m c.index-bulletins-middle.result (omega arith) in
-    slice_get-get_or (positions bs) m 0 (omega (arith, positions-length bs)) ∙ ap Some (here ∙ c.if-here-position.true)
+returns-then-here-position-clause-found c = grind (arith, common_steps, position-at, slice_get-get_or, positions-length)
 
 pub loop-low-preserved-then-here-position-2 : goal.loop-low-preserved-then-here-position-2
 loop-low-preserved-then-here-position-2 c =
@@ -37,7 +34,4 @@ loop-low-preserved c =
     }
 
 pub returns-clause-none : goal.returns-clause-none
-returns-clause-none c =
-    let bs = c.args.bulletins.now in
-    has_not (positions bs) c.args.position (λ k l. found_none (positions bs) c.args.position c.loop-low.low (length bs)
-    c.loop-low.invariant.below (λ k t l. c.loop-low.invariant.above k (omega arith) l) k (omega (arith, positions-length bs)))
+returns-clause-none c = grind (arith, common_steps, has_not, found_none, positions-length)

@@ -1,14 +1,13 @@
-use Rattle.std.proofs.Common.{rules, ◌≡◌, ◌+◌, ◌-◌, ◌*◌, ◌^◌, ◌<◌, ◌≤◌, ℕ, List, Option, length, sym, ap, subst, ◌∙◌, arith, IfErr, IfSome, IfNone}
-use Rattle.gts_checkpoint.specs.Cited.{Call, CanBegin, Damaged, FindsText, IsReadFault, bytes_from, draw_size, first_of, need_of, seal_size, unowed}
+use Rattle.std.proofs.Common.{◌≡◌, ◌+◌, ◌-◌, ◌*◌, ◌^◌, ◌<◌, ◌≤◌, ℕ, Option, sym, ap, subst, ◌∙◌, arith, IfSome, IfNone}
+use Rattle.gts_checkpoint.specs.Cited.{CanBegin, Damaged, FindsText, bytes_from, draw_size, first_of, need_of, seal_size, unowed}
 use Rattle.gts_event.specs.declared.values.Need.{Need}
 use Rattle.gts_checkpoint.proofs.ReadLemmas.{none_there, stands_there, counts_there, can_begin, no_room, not_sound, no_seal, compares, has_read, size_there, no_damage}
 use Rattle.gts_checkpoint.proofs.SealLemmas.{last_is}
 use Rattle.gts_checkpoint.proofs.reading.read.Goals as goal
+use Rattle.std.proofs.lemmas.Grind.{common_steps}
 
 pub returns-in_err-need-clause-fault : goal.returns-in_err-need-clause-fault
-returns-in_err-need-clause-fault g c = λ observed.
-    let kind : IfErr c.from_residual.result IsReadFault = search rules in
-    no_damage c.args.version c.args.directory.now c.args.file (bytes_from (g.P.Station.calls c.args.station.now) c.args.file 41) c.from_residual.result kind
+returns-in_err-need-clause-fault g c = grind (arith, common_steps, no_damage)
 
 pub returns-in_default-clause-fault : goal.returns-in_default-clause-fault
 returns-in_default-clause-fault g c = λ observed.
@@ -42,14 +41,7 @@ returns-then-not-branch-clause-fault g c = λ observed.
     (ap (λ (k : ℕ). Damaged k 41) c.number.ensures.value, not_sound c.args.version d bytes (need_of n) stands (sym c.in_ok-is_sound.ensures ∙ c.if-not-branch.true))
 
 pub seal_at-requires-clause-there : goal.seal_at-requires-clause-there
-seal_at-requires-clause-there g c = λ observed.
-    let n : Need = c.in-Some.need in
-    let at : ℕ = c.in-Some.at in
-    let bytes = bytes_from (g.P.Station.calls c.args.station.now) c.args.file 41 in
-    let stands = stands_there bytes c.circuits.result c.in_ok-need.field-0 n at c.in-Some.is (c.in_ok-need.ensures.found observed) c.in_ok-need.ensures.fits c.in_ok-need.ensures.unowed in
-    let now : List Call = g.P.Station.calls c.need_at.new.station in
-    let F : List Call → Type 0 = λ l. at - 41 ≤ length (bytes_from l c.args.file 41) in
-    subst F (sym (c.in_ok-need.ensures.looks.told observed)) (size_there bytes n c.in_ok-need.field-0 at c.in-Some.is stands c.in_ok-need.ensures.place)
+seal_at-requires-clause-there g c = grind (arith, common_steps, stands_there, size_there)
 
 pub returns-in_default-2-clause-fault : goal.returns-in_default-2-clause-fault
 returns-in_default-2-clause-fault g c = λ observed.

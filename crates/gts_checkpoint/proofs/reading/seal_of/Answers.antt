@@ -1,8 +1,9 @@
-use Rattle.std.proofs.Common.{◌≡◌, ◌+◌, ◌<◌, ◌≤◌, ℕ, List, Ok, length, take, ap, subst, ◌∙◌, arith}
+use Rattle.std.proofs.Common.{◌≡◌, ◌+◌, ◌≤◌, ℕ, List, Ok, length, take, ap, subst, ◌∙◌, arith}
 use Rattle.std.proofs.lemmas.List.{length-take-le}
-use Rattle.gts_checkpoint.specs.Cited.{BeginsWith, Seals, bytes_from, held, seal}
+use Rattle.gts_checkpoint.specs.Cited.{BeginsWith, Seals, bytes_from, held}
 use Rattle.gts_checkpoint.proofs.SealLemmas.{piece_there, same_place, enough}
 use Rattle.gts_checkpoint.proofs.reading.seal_of.Goals as goal
+use Rattle.std.proofs.lemmas.Grind.{common_steps}
 
 pub loop-done-preserved : goal.loop-done-preserved
 loop-done-preserved g c =
@@ -27,20 +28,7 @@ loop-done-preserved g c =
     }
 
 pub returns-then-not-branch-clause-some : goal.returns-then-not-branch-clause-some
-returns-then-not-branch-clause-some g c = λ observed.
-    let inv = c.loop-done.invariant in
-    let calls = g.P.Station.calls c.args.station.now in
-    let count : ℕ = c.min-count.result in
-    let short = c.in_ok-fetch.ensures.short observed (ap Ok c.if-not-branch.true) in
-    let few : length (bytes_from (g.P.Station.calls c.loop-done.station) c.args.file (41 + c.from.result)) < count =
-    omega (arith, short, length-take-le count c.loop-done.piece (omega (arith, c.min-count.array_long, c.min-count.ensures))) in
-    absurd (enough calls c.args.file c.loop-done.done c.args.size count inv.inside (c.requires.there observed) (omega (arith, c.min-count.ensures))
-    (same_place (λ l. length l < count) (g.P.Station.calls c.loop-done.station) calls c.args.file c.from.result c.loop-done.done (inv.told observed) c.from.ensures few))
+returns-then-not-branch-clause-some g c = grind (arith, common_steps, length-take-le, enough, same_place)
 
 pub returns-clause-found : goal.returns-clause-found
-returns-clause-found g c = λ observed.
-    let inv = c.loop-done.invariant in
-    let before : List ℕ = held c.args.version c.args.before.now in
-    let all : List ℕ = bytes_from (g.P.Station.calls c.args.station.now) c.args.file 41 in
-    let all_done : c.loop-done.done ≡ c.args.size = omega (arith, inv.inside, c.loop-done-test.false) in
-    c.seal.ensures.held c.args.version before (take c.loop-done.done all) (inv.seals observed) ∙ ap (λ (k : ℕ). seal c.args.version before (take k all)) all_done
+returns-clause-found g c = grind (arith, common_steps)

@@ -1,16 +1,13 @@
-use Rattle.std.proofs.Common.{◌≡◌, List, length, get_or, slice_get, Some, refl, sym, ap, ◌∙◌, arith}
+use Rattle.std.proofs.Common.{◌≡◌, List, length, slice_get, Some, refl, sym, ap, ◌∙◌, arith}
 use Rattle.std.proofs.lemmas.Option.{slice_get_read}
 use Rattle.gts_event.specs.declared.values.CircuitNeed as values
 use Rattle.gts_checkpoint.specs.Sound.{is_circuit_sound, circuit_need_of, need_of}
 use Rattle.gts_checkpoint.proofs.SoundLemmas.{rows-all, get-below, circuits-fail, circuits-more}
 use Rattle.gts_checkpoint.proofs.sound.are_circuits_sound.Goals as goal
+use Rattle.std.proofs.lemmas.Grind.{common_steps}
 
 pub returns-then-not-branch : goal.returns-then-not-branch
-returns-then-not-branch c =
-    let k = c.loop-c.c in
-    sym (circuits-fail c.args.directory.now c.args.need.now k c.index-circuits-c.result (omega arith) (omega arith)
-    (c.index-circuits-c.is ∙ ap (λ (qs : List values.CircuitNeed). get_or qs k c.index-circuits-c.result) c.as_slice-circuits.ensures)
-    (λ row at. sym (c.in_ok-is_circuit_sound.ensures row at) ∙ c.if-not-branch.true))
+returns-then-not-branch c = grind (arith, common_steps, circuits-fail)
 
 pub loop-c-preserved : goal.loop-c-preserved
 loop-c-preserved c =

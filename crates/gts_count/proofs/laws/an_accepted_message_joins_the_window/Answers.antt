@@ -1,12 +1,10 @@
-use Rattle.std.proofs.Common.{◌≡◌, ℕ, ◌-◌, min, ap, arith}
-use Rattle.std.specs.List.{range_with_len}
+use Rattle.std.proofs.Common.{arith}
 use Rattle.gts_count.proofs.WindowLemmas.{joins_window, window_goes_on}
 use Rattle.gts_count.proofs.laws.an_accepted_message_joins_the_window.Goals as goal
+use Rattle.std.proofs.lemmas.Grind.{common_steps}
 
 pub returns-clause-empty : goal.returns-clause-empty
-returns-clause-empty c = λ d.
-    let none : 0 ≡ min d.window 0 = omega arith in
-    ap (λ (n : ℕ). range_with_len (0 - d.window) n) none
+returns-clause-empty c = grind (arith, common_steps)
 
 pub returns-clause-joins : goal.returns-clause-joins
 returns-clause-joins c = joins_window

@@ -1,22 +1,18 @@
-use Rattle.std.proofs.Common.{◌≡◌, ℕ, List, length, map, sym, ap, subst, arith, IsTrue, IsSome}
-use Rattle.gts_count.specs.Cited.{All, AreBodies, Buffer, Circuit, CircuitNeed, HasKeys, HaveRows, Need, NotesAll, NotesDraws, bulletin_of, circuit_need_of, get, is_bulletin, nat_cmp, need_of, unused}
+use Rattle.std.proofs.Common.{◌≡◌, ℕ, List, length, map, sym, ap, subst, arith, IsSome}
+use Rattle.gts_count.specs.Cited.{All, Buffer, Circuit, CircuitNeed, HasKeys, HaveRows, Need, NotesAll, NotesDraws, bulletin_of, circuit_need_of, get, nat_cmp, need_of, unused}
 use Rattle.std.proofs.lemmas.List.{length-map, get_or-map}
 use Rattle.gts_event.specs.declared.values.Bulletin as values
 use Rattle.gts_event.specs.declared.values.CircuitNeed as needs
 use Rattle.gts_event.proofs.LawLemmas.{sound-parts}
 use Rattle.gts_count.proofs.BeginningLemmas.{all_of, bodies_of, each_known, each_row, starts}
 use Rattle.gts_count.proofs.start.numbers_of.Goals as goal
+use Rattle.std.proofs.lemmas.Grind.{common_steps}
 
 pub note_bulletins-requires-clause-bulletins : goal.note_bulletins-requires-clause-bulletins
-note_bulletins-requires-clause-bulletins c =
-    let d = c.args.directory.now in
-    let n : Need = need_of c.args.need.now in
-    subst (λ (xs : List values.Bulletin). All (λ b. IsTrue (is_bulletin d n.accepted (bulletin_of b))) xs) (sym c.as_slice-bulletins.ensures)
-    (all_of (is_bulletin d n.accepted) bulletin_of c.args.need.now.bulletins (sound-parts d n c.requires).bodies)
+note_bulletins-requires-clause-bulletins c = grind (arith, common_steps, all_of, sound-parts)
 
 pub keys_of-requires : goal.keys_of-requires
-keys_of-requires c =
-    subst (λ (xs : List values.Bulletin). AreBodies (map bulletin_of xs)) (sym c.as_slice-bulletins.ensures) (bodies_of c.args.directory.now (need_of c.args.need.now) c.requires)
+keys_of-requires c = grind (arith, common_steps, bodies_of)
 
 pub note_draws-requires-clause-circuits : goal.note_draws-requires-clause-circuits
 note_draws-requires-clause-circuits c =

@@ -4,6 +4,8 @@ use Rattle.gts_event.specs.declared.event.Event.TheVariants.{Heard}
 use Rattle.gts_count.proofs.CountingLemmas.{counts_heard, counts_prepared}
 use Rattle.gts_count.proofs.CallLemmas.{counted_call, left_call, unsettled_call}
 use Rattle.gts_count.proofs.steps.hear.Goals as goal
+use Rattle.std.proofs.lemmas.Grind.{common_steps}
+use Rattle.std.proofs.Common.{arith}
 
 pub returns-in-Ok-clause-called : goal.returns-in-Ok-clause-called
 returns-in-Ok-clause-called g c =
@@ -15,11 +17,7 @@ returns-in-Ok-clause-called g c =
     (counts_prepared _ _ entries c.args.parts.now.counting c.ready.new.counting c.in-Ok.ensures.prepares c.in-Ok.ensures.rest counts))
 
 pub returns-in_err-settle-in-Err-clause-called : goal.returns-in_err-settle-in-Err-clause-called
-returns-in_err-settle-in-Err-clause-called g c =
-    let p = err_from_is_err_and c.from_residual.result c.from_residual.ensures.1 in
-    rw (p.1, p.2) (unsettled_call g.T.Switch.meanings (Heard c.args.c c.args.kind c.args.message.now) c.args.parts.now _ c.settle.new.parts c.settle.result c.in_err-settle-in-Err.field-0.0 refl
-    (λ d s h counts. counts_prepared d s h c.args.parts.now.counting c.ready.new.counting c.in-Err.ensures.prepares c.in-Err.ensures.rest counts)
-    c.settle.ensures.settling c.in_err-settle-in-Err.was)
+returns-in_err-settle-in-Err-clause-called g c = grind (arith, common_steps, err_from_is_err_and, unsettled_call, counts_prepared)
 
 pub returns-in_ok-settle-in-Err-clause-called : goal.returns-in_ok-settle-in-Err-clause-called
 returns-in_ok-settle-in-Err-clause-called g c =

@@ -1,10 +1,10 @@
-use Rattle.std.proofs.Common.{◌∙◌}
 use Rattle.gts_count.proofs.SortedLemmas.{none_sorted, one_sorted, all_sorted}
 use Rattle.gts_count.proofs.text.in_order.Goals as goal
+use Rattle.std.proofs.lemmas.Grind.{common_steps}
+use Rattle.std.proofs.Common.{arith}
 
 pub loop-key-init : goal.loop-key-init
-loop-key-init c =
-    none_sorted c.args.rows.now c.new-sorted.result c.into_iter-key-iterator.result c.new-sorted.ensures.empty (c.into_iter-key-iterator.ensures.into_iter_gives ∙ c.iter-key-items.ensures.rest) c.iter-key-items.ensures.found
+loop-key-init c = grind (arith, common_steps, none_sorted)
 
 pub loop-key-preserved : goal.loop-key-preserved
 loop-key-preserved c =

@@ -7,6 +7,7 @@ use Rattle.gts_engine.proofs.StepLemmas.{idle_going}
 use Rattle.gts_engine.proofs.RewritingLemmas.{sound_put, moments_put, failed_put, whole_put, moments_all, compaction_by, sound_by, written_by}
 use Rattle.gts_engine.proofs.AnsweringLemmas.{cause_alike, cause_then, no_device_done}
 use Rattle.gts_engine.proofs.compacting.rewrite.Goals as goal
+use Rattle.std.proofs.lemmas.Grind.{common_steps}
 
 fault_of : (result : Result (Unit {0}) SwitchFault) (e : SwitchFault) → result ≡ Err e → IfErr result (λ x. x ≡ DiskFault) → e ≡ DiskFault
 fault_of result e is h = let F : Result (Unit {0}) SwitchFault → Type 0 = λ r. IfErr r (λ x. x ≡ DiskFault) in subst F is h
@@ -19,10 +20,7 @@ put-requires-clause-fits g c =
     fit_bytes p.directory _ p.within.circuits (sound g.P.Station.observed p.directory (g.P.Station.calls p.station) p.core p.journal g0 _ n_is)
 
 pub compacted_size-used-requires : goal.compacted_size-used-requires
-compacted_size-used-requires g c =
-    let p = c.args.parts.now in
-    let g0 = idle_going g.P.Station p c.requires.sound c.requires.going c.requires.rests in
-    size_few p.directory g0.state (need_of c.args.need.now) c.args.size (c.requires.need p.directory g0.state g0.holds) c.requires.size (c.requires.free g0.state g0.holds) (omega (arith, p.within.limit))
+compacted_size-used-requires g c = grind (arith, common_steps, idle_going, sound, size_few)
 
 pub choose-requires-clause-whole : goal.choose-requires-clause-whole
 choose-requires-clause-whole g c =

@@ -6,15 +6,11 @@ use Rattle.gts_engine.proofs.StepLemmas.{enters_core, lost_step}
 use Rattle.gts_engine.proofs.CallLemmas.{failed_active, unsaid_active}
 use Rattle.gts_engine.proofs.AnsweringLemmas.{may_directory, may_sound, may_kind, goes_cleared, answers_uncleared, answers_told, answers_choked}
 use Rattle.gts_engine.proofs.losing.lose.Goals as goal
+use Rattle.std.proofs.lemmas.Grind.{common_steps}
+use Rattle.std.proofs.Common.{arith}
 
 pub returns-in_err-make_room-clause-answered : goal.returns-in_err-make_room-clause-answered
-returns-in_err-make_room-clause-answered g c =
-    let old = c.args.parts.now in
-    let mid = c.make_room.new.parts in
-    let clears = c.make_room.ensures.settles in
-    let event = Lost c.args.c c.args.field in
-    let p = err_from_is_err_and c.from_residual.result c.from_residual.ensures.1 in
-    λ mode. rw (p.1, p.2) (answers_uncleared g.P.Station mode event old mid c.make_room.result clears c.in_err-make_room.field-0.0 c.in_err-make_room.was c.requires.sound)
+returns-in_err-make_room-clause-answered g c = grind (arith, common_steps, err_from_is_err_and, answers_uncleared)
 
 pub returns-clause-answered : goal.returns-clause-answered
 returns-clause-answered g c =
@@ -48,12 +44,7 @@ returns-in_err-say_receipt-clause-answered g c =
     c.say_receipt.new.parts 0 text c.say_receipt.result c.say_receipt.ensures (λ s h. receipt_told mode text) c.in_err-say_receipt.field-0.0 c.in_err-say_receipt.was)
 
 pub returns-in_err-make_room-clause-active : goal.returns-in_err-make_room-clause-active
-returns-in_err-make_room-clause-active g c =
-    let p = err_from_is_err_and c.from_residual.result c.from_residual.ensures.1 in
-    rw (p.1, p.2) (failed_active c.make_room.result c.in_err-make_room.field-0.0 c.in_err-make_room.was
-    (may_kind g.P.Station c.make_room.result c.args.parts.now c.make_room.new.parts c.make_room.ensures.settles))
+returns-in_err-make_room-clause-active g c = grind (arith, common_steps, err_from_is_err_and, failed_active, may_kind)
 
 pub returns-in_err-say_receipt-clause-active : goal.returns-in_err-say_receipt-clause-active
-returns-in_err-say_receipt-clause-active g c =
-    let p = err_from_is_err_and c.from_residual-in_err-say_receipt.result c.from_residual-in_err-say_receipt.ensures.1 in
-    rw (p.1, p.2) (unsaid_active c.say_receipt.result c.in_err-say_receipt.field-0.0 c.in_err-say_receipt.was c.say_receipt.ensures.fault)
+returns-in_err-say_receipt-clause-active g c = grind (arith, common_steps, err_from_is_err_and, unsaid_active)

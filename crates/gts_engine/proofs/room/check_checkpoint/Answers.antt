@@ -3,6 +3,7 @@ use Rattle.gts_engine.specs.Cited.{draw_size, due, seal_size, written}
 use Rattle.gts_engine.proofs.HearingLemmas.{times_few}
 use Rattle.gts_engine.proofs.CompactLemmas.{no_room_compacted, has_room_compacted}
 use Rattle.gts_engine.proofs.room.check_checkpoint.Goals as goal
+use Rattle.std.proofs.lemmas.Grind.{common_steps}
 
 pub overflow_mul-beside : goal.overflow_mul-beside
 overflow_mul-beside c = omega (arith, times_few c.draw_size.result c.args.draws c.draw_size.ensures.bound, c.requires)
@@ -20,10 +21,4 @@ returns-then-saturating_add-limit c = λ s draws_is size.
     (omega (arith, c.saturating_add.ensures, c.if-saturating_add-limit.true, c.limit-limit.ensures.value)) (omega (arith, c.limit-limit.ensures.value, c.limit-limit.ensures.range.1))
 
 pub returns : goal.returns
-returns c = λ s draws_is size.
-    let draws : c.draw_size.result * c.args.draws ≡ draw_size written * due s =
-    ap (λ (k : ℕ). k * c.args.draws) (c.draw_size.ensures.value ∙ ap draw_size c.written-version.ensures) ∙ ap (λ (k : ℕ). draw_size written * k) (sym draws_is) in
-    let last : c.seal_size.result ≡ seal_size written = c.seal_size.ensures.value ∙ ap seal_size c.written-version.ensures in
-    has_room_compacted c.args.directory.now s c.args.size c.saturating_add-need.result size
-    (omega (arith, c.saturating_add-need.ensures, draws, last))
-    (omega (arith, c.saturating_add.ensures, c.if-saturating_add-limit.false, c.limit-limit.ensures.value)) (omega (arith, c.limit-limit.ensures.value, c.limit-limit.ensures.range.1))
+returns c = grind (arith, common_steps, has_room_compacted)

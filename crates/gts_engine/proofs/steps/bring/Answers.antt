@@ -1,5 +1,7 @@
 use Rattle.std.proofs.Common.{refl}
 use Rattle.gts_engine.proofs.steps.bring.Goals as goal
+use Rattle.std.proofs.lemmas.Grind.{common_steps}
+use Rattle.std.proofs.Common.{arith}
 
 pub returns-in-Ok-clause-moments : goal.returns-in-Ok-clause-moments
 returns-in-Ok-clause-moments g c = λ tell s rs stands next.
@@ -7,9 +9,7 @@ returns-in-Ok-clause-moments g c = λ tell s rs stands next.
     c.a_batch_adds_its_records.ensures.moments old.directory s (g.P.Station.calls old.station) (g.P.Station.calls c.append_batch.new.station) old.journal rs old.batch stands next (c.append_batch.ensures.moments tell)
 
 pub returns-in-Err-clause-moments : goal.returns-in-Err-clause-moments
-returns-in-Err-clause-moments g c = λ tell s rs stands next.
-    let old = c.args.parts.now in
-    c.a_batch_adds_its_records.ensures.moments old.directory s (g.P.Station.calls old.station) (g.P.Station.calls c.append_batch.new.station) old.journal rs old.batch stands next (c.append_batch.ensures.moments tell)
+returns-in-Err-clause-moments g c = grind (arith, common_steps)
 
 pub returns-in-Ok-clause-stands : goal.returns-in-Ok-clause-stands
 returns-in-Ok-clause-stands g c = λ tell s rs stands next.

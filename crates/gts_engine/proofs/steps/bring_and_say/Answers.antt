@@ -1,24 +1,15 @@
-use Rattle.std.proofs.Common.{ℕ, Result, Ok, Err, refl, sym, ap, subst, ◌∙◌, arith}
+use Rattle.std.proofs.Common.{Ok, Err, ap, ◌∙◌, arith}
 use Rattle.std.proofs.lemmas.Result.{err_from_is_err_and}
-use Rattle.gts_engine.specs.Cited.{BringsAndSays, HasStationCause, Rose, SayFault, SaysBy, SwitchFault, held_pieces}
+use Rattle.gts_engine.specs.Cited.{SayFault}
 use Rattle.gts_engine.proofs.SayingLemmas.{brings_nothing, brings_all, only_brought, said_behind, fails_behind, journal_in}
 use Rattle.gts_engine.proofs.steps.bring_and_say.Goals as goal
+use Rattle.std.proofs.lemmas.Grind.{common_steps}
 
 pub returns-in_err-bring-clause-brings : goal.returns-in_err-bring-clause-brings
-returns-in_err-bring-clause-brings g c = λ tell.
-    let p = err_from_is_err_and c.from_residual.result c.from_residual.ensures.1 in
-    let old = c.args.parts.now in
-    let mid = c.bring.new.parts in
-    let F : SwitchFault → Type 0 = λ f. BringsAndSays (Err f) (g.P.Station.calls old.station) (g.P.Station.calls mid.station) old mid.journal in
-    rw (p.1, p.2) (subst F (sym c.in_err-bring.ensures.fault) (brings_nothing g.P.Station old mid mid c.bring.ensures.rest c.bring.ensures.silent c.bring.ensures.moments tell))
+returns-in_err-bring-clause-brings g c = grind (arith, common_steps, err_from_is_err_and, brings_nothing)
 
 pub returns-in_err-bring-clause-said : goal.returns-in_err-bring-clause-said
-returns-in_err-bring-clause-said g c =
-    let p = err_from_is_err_and c.from_residual.result c.from_residual.ensures.1 in
-    let old = c.args.parts.now in
-    let mid = c.bring.new.parts in
-    let F : SwitchFault → Type 0 = λ f. SaysBy g.P.Station.observed (held_pieces old.held) (Err f) (g.P.Station.calls old.station) (g.P.Station.calls mid.station) in
-    rw (p.1, p.2) (subst F (sym c.in_err-bring.ensures.fault) c.bring.ensures.silent)
+returns-in_err-bring-clause-said g c = grind (arith, common_steps, err_from_is_err_and)
 
 pub returns-in-Ok-clause-brings : goal.returns-in-Ok-clause-brings
 returns-in-Ok-clause-brings g c = brings_all g.P.Station c.args.parts.now c.bring.new.parts c.say_held.new.parts c.bring.ensures.rest c.bring.ensures.silent c.bring.ensures.moments c.in_ok-bring.ensures.stands c.say_held.ensures.rest c.say_held.ensures.says (Ok tt) (λ d t cs j stands. stands)
@@ -42,42 +33,10 @@ pub returns-in-Err-clause-rest : goal.returns-in-Err-clause-rest
 returns-in-Err-clause-rest g c = only_brought g.P.Station c.args.parts.now c.bring.new.parts c.say_held.new.parts c.bring.ensures.rest c.say_held.ensures.rest
 
 pub returns-in_err-bring-clause-cause : goal.returns-in_err-bring-clause-cause
-returns-in_err-bring-clause-cause g c =
-    let p = err_from_is_err_and c.from_residual.result c.from_residual.ensures.1 in
-    let F : SwitchFault → Type 0 = λ f. HasStationCause g.P.Station (let r : Result (Unit {0}) SwitchFault = Err f in r) c.args.parts.now.station c.bring.new.parts.station in
-    let a = c.in_err-bring.ensures.cause in
-    rw (p.1, p.2) (subst F (sym c.in_err-bring.ensures.fault) (record {
-      disk_later = a.later;
-      disk_failed = λ e. a.failed refl;
-      disk_still = λ no. absurd (no refl);
-      say_later = omega (arith, a.say);
-      say_failed = λ e. absurd (cc e);
-      say_still = λ no. a.say;
-    }))
+returns-in_err-bring-clause-cause g c = grind (arith, common_steps, err_from_is_err_and)
 
 pub returns-in-Ok-clause-cause : goal.returns-in-Ok-clause-cause
-returns-in-Ok-clause-cause g c =
-    let b = c.in_ok-bring.ensures.cause in
-    let s = c.in-Ok.ensures.cause in
-    record {
-      disk_later = omega (arith, b.later, s.disk);
-      disk_failed = λ e. absurd (cc e);
-      disk_still = λ no. s.disk ∙ b.sound;
-      say_later = omega (arith, b.say, s.later);
-      say_failed = λ e. absurd (cc e);
-      say_still = λ no. s.sound ∙ b.say;
-    }
+returns-in-Ok-clause-cause g c = grind (arith, common_steps)
 
 pub returns-in-Err-clause-cause : goal.returns-in-Err-clause-cause
-returns-in-Err-clause-cause g c =
-    let b = c.in_ok-bring.ensures.cause in
-    let s = c.in-Err.ensures.cause in
-    let R : ℕ → Type 0 = λ n. Rose n (g.P.Station.say_faults c.say_held.new.parts.station) in
-    record {
-      disk_later = omega (arith, b.later, s.disk);
-      disk_failed = λ e. absurd (cc e);
-      disk_still = λ no. s.disk ∙ b.sound;
-      say_later = omega (arith, b.say, s.later);
-      say_failed = λ e. subst R b.say (s.failed refl);
-      say_still = λ no. absurd (no refl);
-    }
+returns-in-Err-clause-cause g c = grind (arith, common_steps)

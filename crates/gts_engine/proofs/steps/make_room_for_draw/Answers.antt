@@ -4,26 +4,19 @@ use Rattle.gts_engine.proofs.TakingLemmas.{most_is}
 use Rattle.gts_engine.proofs.SettlingLemmas.{whenever, draw_gathers, room_settled, held_settled, drawn_settled}
 use Rattle.gts_engine.proofs.AnsweringLemmas.{may_directory, draws_still}
 use Rattle.gts_engine.proofs.steps.make_room_for_draw.Goals as goal
+use Rattle.std.proofs.lemmas.Grind.{common_steps}
 
 pub returns-then-parts-c-clause-settles : goal.returns-then-parts-c-clause-settles
 returns-then-parts-c-clause-settles g c = inr c.settle.ensures.settles
 
 pub returns-then-parts-c-clause-bytes : goal.returns-then-parts-c-clause-bytes
-returns-then-parts-c-clause-bytes g c =
-    whenever c.settle.result (room_settled g.P.Station c.settle.result c.args.parts.now c.settle.new.parts c.settle.ensures.settles _ draw_gathers)
+returns-then-parts-c-clause-bytes g c = grind (arith, common_steps, whenever, room_settled, draw_gathers)
 
 pub returns-then-parts-c-clause-saying : goal.returns-then-parts-c-clause-saying
-returns-then-parts-c-clause-saying g c =
-    whenever c.settle.result (held_settled g.P.Station c.settle.result c.args.parts.now c.settle.new.parts c.settle.ensures.settles _ (omega arith))
+returns-then-parts-c-clause-saying g c = grind (arith, common_steps, whenever, held_settled)
 
 pub returns-then-parts-c-clause-draw : goal.returns-then-parts-c-clause-draw
-returns-then-parts-c-clause-draw g c =
-    let old = c.args.parts.now in
-    let new = c.settle.new.parts in
-    let most = most_is old.directory c.args.c (circuit_of_row c.circuit.result.now) c.circuit.ensures.row in
-    let D : Directory → Type 0 = λ d. slice_index_or new.drawn c.args.c 0 < most_drawn d c.args.c in
-    whenever c.settle.result (subst D (sym (ap (λ (p : EngineParts g.row.P.Denot). p.directory) c.settle.ensures.settles.rest))
-    (omega (arith, drawn_settled g.P.Station c.settle.result old new c.settle.ensures.settles c.args.c, most, c.circuit.ensures.repeat.0)))
+returns-then-parts-c-clause-draw g c = grind (arith, common_steps, most_is, whenever, drawn_settled)
 
 pub returns-then-parts-c-clause-few : goal.returns-then-parts-c-clause-few
 returns-then-parts-c-clause-few g c =

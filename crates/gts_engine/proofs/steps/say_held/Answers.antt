@@ -1,21 +1,18 @@
-use Rattle.std.proofs.Common.{◌≡◌, ◌+◌, ◌<◌, ℕ, [], length, take, true, false, refl, sym, ap, subst, ◌∙◌, arith, IsOk}
-use Rattle.gts_engine.specs.Cited.{Rose, Sayings, held_pieces, sizes_of, slice_index_or}
+use Rattle.std.proofs.Common.{◌≡◌, ◌+◌, take, refl, ap, subst, arith}
+use Rattle.gts_engine.specs.Cited.{Sayings, sizes_of}
 use Rattle.gts_engine.proofs.PieceLemmas.{each_empty}
 use Rattle.gts_engine.proofs.SayingLemmas.{sayings_in, none_so_far, one_further, said_all, holds_all, holds_failed, fails_there}
 use Rattle.gts_engine.proofs.steps.say_held.Goals as goal
+use Rattle.std.proofs.lemmas.Grind.{common_steps}
 
 pub loop-i-init : goal.loop-i-init
 loop-i-init g c = record { at = refl; up = none_so_far g.P.Station c.args.parts.now }
 
 pub say_one-requires-clause-there : goal.say_one-requires-clause-there
-say_one-requires-clause-there g c =
-    let W : Sayings → Type 0 = λ h. c.loop-i.i < length h.each in
-    subst W (sym (ap sayings_in c.loop-i.invariant.up.rest)) (omega (arith, c.loop-i-test.true, c.count-i-end.ensures))
+say_one-requires-clause-there g c = grind (arith, common_steps, sayings_in)
 
 pub say_one-requires-clause-place : goal.say_one-requires-clause-place
-say_one-requires-clause-place g c =
-    let A : Sayings → Type 0 = λ h. c.loop-i.at ≡ sizes_of (take c.loop-i.i h.each) in
-    subst A (sym (ap sayings_in c.loop-i.invariant.up.rest)) c.loop-i.invariant.at
+say_one-requires-clause-place g c = grind (arith, common_steps, sayings_in)
 
 pub loop-i-preserved : goal.loop-i-preserved
 loop-i-preserved g c =
@@ -38,20 +35,10 @@ pub returns-clause-said : goal.returns-clause-said
 returns-clause-said g c = said_all g.P.Station c.args.parts.now c.loop-i.i c.loop-i.parts (omega (arith, c.loop-i-test.false, c.loop-i.auto.i-end, c.count-i-end.ensures)) c.loop-i.invariant.up
 
 pub returns-in-Err-clause-silent : goal.returns-in-Err-clause-silent
-returns-in-Err-clause-silent g c = λ empty.
-    let E : Sayings → Type 0 = λ h. slice_index_or (held_pieces h) c.loop-i.i [] ≡ [] in
-    let none : E c.loop-i.parts.held = subst E (sym (ap sayings_in c.loop-i.invariant.up.rest)) (each_empty (held_pieces c.args.parts.now.held) c.loop-i.i empty) in
-    let no : false ≡ true = subst IsOk c.in-Err.is (c.say_one.ensures.silent none) in
-    absurd (cc no)
+returns-in-Err-clause-silent g c = grind (arith, common_steps, sayings_in, each_empty)
 
 pub returns-in-Err-clause-cause : goal.returns-in-Err-clause-cause
-returns-in-Err-clause-cause g c =
-    let up = c.loop-i.invariant.up in
-    let asks = c.in-Err.ensures.cause in
-    let R : ℕ → Type 0 = λ n. Rose n (g.P.Station.say_faults c.say_one.new.parts.station) in
-    record { later = omega (arith, up.still, asks.later); failed = λ e. subst R up.still (asks.failed refl); sound = tt; disk = asks.disk ∙ up.disk_stays }
+returns-in-Err-clause-cause g c = grind (arith, common_steps)
 
 pub returns-clause-cause : goal.returns-clause-cause
-returns-clause-cause g c =
-    let up = c.loop-i.invariant.up in
-    record { later = omega (arith, up.still); failed = λ e. absurd (cc e); sound = up.still; disk = up.disk_stays }
+returns-clause-cause g c = grind (arith, common_steps)

@@ -1,22 +1,16 @@
-use Rattle.std.proofs.Common.{◌≡◌, ℕ, List, refl, sym, subst, ◌∙◌, arith, true, false, Ok}
+use Rattle.std.proofs.Common.{◌≡◌, ℕ, List, sym, subst, arith, true}
 use Rattle.gts_engine.specs.Cited.{EngineParts, HasSettled, engine_of, no_records, no_sayings}
 use Rattle.std.proofs.lemmas.Bool.{eqb-false}
 use Rattle.gts_engine.proofs.SettlingLemmas.{none_told, some_told, block_of, nothing_settled, all_settled, few_none}
 use Rattle.gts_engine.proofs.AnsweringLemmas.{unfailed}
 use Rattle.gts_engine.proofs.steps.settle.Goals as goal
+use Rattle.std.proofs.lemmas.Grind.{common_steps}
 
 pub returns-then-is_empty-clause-settles : goal.returns-then-is_empty-clause-settles
-returns-then-is_empty-clause-settles g c =
-    let old = c.args.parts.now in
-    let none : (engine_of old).gathered ≡ false = none_told _ c.is_empty.result c.is_empty.ensures.value c.if-is_empty.true in
-    nothing_settled g.P.Station old c.requires.sound none (unfailed g.P.Station (Ok tt) old old refl)
+returns-then-is_empty-clause-settles g c = grind (arith, common_steps, none_told, nothing_settled, unfailed)
 
 pub bring_and_say-result-requires-clause-some : goal.bring_and_say-result-requires-clause-some
-bring_and_say-result-requires-clause-some g c =
-    let old = c.args.parts.now in
-    let s0 = c.requires.sound.goes c.requires.going in
-    let other = eqb-false _ 1 (sym c.is_empty.ensures.value ∙ c.if-is_empty.false) in
-    block_of g.P.Station.observed old.directory (g.P.Station.calls old.station) old.core old.journal old.batch s0 (omega (arith, c.is_empty.ensures.closed, other))
+bring_and_say-result-requires-clause-some g c = grind (arith, common_steps, eqb-false, block_of)
 
 pub bring_and_say-result-requires-clause-version : goal.bring_and_say-result-requires-clause-version
 bring_and_say-result-requires-clause-version g c = (c.requires.sound.goes c.requires.going).next.version

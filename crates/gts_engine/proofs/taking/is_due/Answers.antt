@@ -1,6 +1,7 @@
 use Rattle.gts_engine.proofs.TakingLemmas.{due_exact}
 use Rattle.gts_engine.proofs.taking.is_due.Goals as goal
+use Rattle.std.proofs.lemmas.Grind.{common_steps}
+use Rattle.std.proofs.Common.{arith}
 
 pub returns : goal.returns
-returns g c = λ s h.
-    due_exact c.args.parts.now.directory s c.args.c c.choice.result c.gives.result c.gives.ensures (c.choice.ensures c.args.parts.now.directory s h)
+returns g c = grind (arith, common_steps, due_exact)

@@ -3,11 +3,11 @@ use Rattle.gts_engine.specs.Cited.{Core, Holds, choice_told}
 use Rattle.gts_engine.proofs.TakingLemmas.{takes_draw, takes_none, repeat_unrecorded, nothing_unrecorded}
 use Rattle.gts_engine.proofs.AnsweringLemmas.{may_core}
 use Rattle.gts_engine.proofs.taking.prepare_take.Goals as goal
+use Rattle.std.proofs.lemmas.Grind.{common_steps}
+use Rattle.std.proofs.Common.{arith}
 
 pub returns-in-Draw-clause-ready : goal.returns-in-Draw-clause-ready
-returns-in-Draw-clause-ready g c =
-    let m = c.make_room_for_draw.ensures in
-    takes_draw c.make_room_for_draw.new.parts c.args.c c.make_room_for_draw.result m.bytes m.saying m.draw m.few
+returns-in-Draw-clause-ready g c = grind (arith, common_steps, takes_draw)
 
 pub returns-in-Resend-clause-ready : goal.returns-in-Resend-clause-ready
 returns-in-Resend-clause-ready g c =

@@ -1,18 +1,17 @@
-use Rattle.std.proofs.Common.{◌≡◌, inl, Bool, true, List, [], ◌∷◌, ◌++◌, if◌then◌else◌, Result, Ok, refl, sym, ap, subst, ◌∙◌, arith}
-use Rattle.gts_engine.specs.Cited.{Caller, HasRoom, LONGEST_FRAME, Outside, Sayings, SwitchFault, Taken, engine_of, event_record, gathered_after, held_pieces}
+use Rattle.std.proofs.Common.{◌≡◌, inl, Bool, true, List, [], ◌∷◌, ◌++◌, if◌then◌else◌, Result, Ok, refl, ap, subst, ◌∙◌, arith}
+use Rattle.gts_engine.specs.Cited.{Caller, Outside, SwitchFault, Taken, engine_of, event_record, gathered_after, held_pieces}
 use Rattle.gts_engine.proofs.SettlingLemmas.{some_told}
 use Rattle.gts_engine.proofs.TakingLemmas.{caller_silent, room_less}
 use Rattle.gts_engine.proofs.AnsweringLemmas.{answers_untold}
 use Rattle.gts_engine.proofs.BehindLemmas.{still_gathered}
 use Rattle.gts_engine.proofs.taking.take_behind.Goals as goal
+use Rattle.std.proofs.lemmas.Grind.{common_steps}
 
 pub enter_take-outcome-requires-clause-ready : goal.enter_take-outcome-requires-clause-ready
 enter_take-outcome-requires-clause-ready g c = c.has_room_for_take.ensures c.if-not-has_room_for_take.false
 
 pub tell_nothing-requires : goal.tell_nothing-requires
-tell_nothing-requires g c =
-    let ready = c.has_room_for_take.ensures c.if-not-has_room_for_take.false in
-    subst (λ (h : Sayings). HasRoom h 0) (sym c.enter_take-outcome.ensures.entered.sayings) (room_less c.args.parts.now.held LONGEST_FRAME 0 (omega arith) ready.frame)
+tell_nothing-requires g c = grind (arith, common_steps, room_less)
 
 pub returns-clause-gathered : goal.returns-clause-gathered
 returns-clause-gathered g c = some_told _ c.is_empty.result c.is_empty.ensures.value c.is_empty.ensures.closed c.if-is_empty.false

@@ -1,20 +1,13 @@
-use Rattle.std.proofs.Common.{◌≡◌, ◌+◌, ◌++◌, ℕ, [], ◌∷◌, length, Result, Err, refl, ap, subst, ◌∙◌, arith, length-append}
+use Rattle.std.proofs.Common.{◌≡◌, ◌+◌, ◌++◌, ℕ, [], ◌∷◌, length, Result, Err, ap, subst, ◌∙◌, arith, length-append}
 use Rattle.std.proofs.lemmas.Result.{err_from_is_err_and}
-use Rattle.gts_gap.specs.Cited.{Bad, CaptureFault, Comes, DoesStep, End, Head, Held, SourceFault, head_of, line_of}
+use Rattle.gts_gap.specs.Cited.{Bad, CaptureFault, Comes, DoesStep, End, Head, SourceFault, head_of, line_of}
 use Rattle.gts_replay.proofs.RunLemmas.{ReadsHead}
 use Rattle.gts_gap.proofs.MissingRunLemmas.{runs_none, runs_more, ends_done, ends_bad, ends_in_step, ends_never}
 use Rattle.gts_gap.proofs.reading.run.Goals as goal
+use Rattle.std.proofs.lemmas.Grind.{common_steps}
 
 pub loop-init : goal.loop-init
-loop-init g c = record {
-  done = λ d new. ([], refl, runs_none g.S.Source.observed d (g.S.Source.left c.args.capture.now) c.args.steps.now c.args.decoders.now c.args.table.now c.requires.begins c.requires.decoders new);
-  of_kind = ap (λ (h : Held). h.kind) c.requires.begins;
-  taken = ap (λ (h : Held). h.feed) c.requires.begins;
-  here = ap (λ (h : Held). h.circuits) c.requires.begins;
-  circuits = refl;
-  decoders = c.requires.decoders;
-  sound = refl;
-}
+loop-init g c = grind (arith, common_steps, runs_none)
 
 pub returns-in-End-clause-comes : goal.returns-in-End-clause-comes
 returns-in-End-clause-comes g c = λ d new.

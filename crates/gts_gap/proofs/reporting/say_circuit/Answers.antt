@@ -1,9 +1,11 @@
-use Rattle.std.proofs.Common.{◌≡◌, ◌+◌, ◌++◌, List, [], ℕ, Result, Err, Ok, sym, ap, subst, ◌∙◌}
+use Rattle.std.proofs.Common.{◌≡◌, ◌+◌, List, ℕ, Result, Err, Ok, sym, ap, subst, ◌∙◌}
 use Rattle.std.proofs.lemmas.List.{append-nil}
 use Rattle.gts_gap.specs.Cited.{Failed, Outside, SaysFront, SaysOnly, Tells, ask_frame, ask_heading, asked, circuit_of_row, digits_of, gap_lines, gaps, on, peer_of, run_lines, runs_given, said_of, text_of}
 use Rattle.gts_traits.proofs.SayLemmas.{front_more}
 use Rattle.gts_gap.proofs.SayingLemmas.{lines_given, asked_none, asked_some, peer_is, tells_behind, front_told}
 use Rattle.gts_gap.proofs.reporting.say_circuit.Goals as goal
+use Rattle.std.proofs.lemmas.Grind.{common_steps}
+use Rattle.std.proofs.Common.{arith}
 
 pub returns-in_err-say_runs-clause-told : goal.returns-in_err-say_runs-clause-told
 returns-in_err-say_runs-clause-told g c = λ t ns stands.
@@ -18,17 +20,7 @@ returns-in_err-say_runs-clause-told g c = λ t ns stands.
     (front_more a b (on 0 (gap_lines c.args.c w (gaps ns))) (asked c.args.directory.now c.args.moment c.args.c w (gaps ns)) said)
 
 pub returns-then-not-ask-clause-told : goal.returns-then-not-ask-clause-told
-returns-then-not-ask-clause-told g c = λ t ns stands.
-    let a = g.P.Station.calls c.args.station.now in
-    let b = g.P.Station.calls c.say_runs.new.station in
-    let w : ℕ = digits_of ns in
-    let lines : run_lines c.args.c c.runs.result ≡ gap_lines c.args.c w (gaps ns) = ap (run_lines c.args.c) (c.runs.ensures.runs ns stands) ∙ lines_given c.args.c w (gaps ns) in
-    let T : List ℕ → Result (Unit {0}) Failed → Type 0 = λ piece r. Tells r (on 0 piece) a b in
-    let said : SaysOnly a b (on 0 (gap_lines c.args.c w (gaps ns))) =
-    subst (λ (piece : List ℕ). T piece (Ok tt)) lines (subst (T (run_lines c.args.c c.runs.result)) c.in_ok-say_runs.was (c.say_runs.ensures.told t)) in
-    let none : asked c.args.directory.now c.args.moment c.args.c w (gaps ns) ≡ [] =
-    asked_none c.args.directory.now c.args.moment c.args.c w (gaps ns) (λ some. let ask = (c.ask.ensures.some ns stands).1 some in let test = c.if-not-ask.true in cc) in
-    subst (λ (o : Outside). SaysOnly a b o) (sym (ap (λ (o : Outside). on 0 (gap_lines c.args.c w (gaps ns)) ++ o) none ∙ append-nil (on 0 (gap_lines c.args.c w (gaps ns))))) said
+returns-then-not-ask-clause-told g c = grind (arith, common_steps, lines_given, asked_none, append-nil)
 
 pub returns-clause-told : goal.returns-clause-told
 returns-clause-told g c = λ t ns stands.

@@ -1,6 +1,7 @@
 use Rattle.gts_generate.proofs.CentreLemmas.{circuit-added}
 use Rattle.gts_generate.proofs.directory.add_circuits.Goals as goal
+use Rattle.std.proofs.lemmas.Grind.{common_steps}
+use Rattle.std.proofs.Common.{arith}
 
 pub loop-j-preserved : goal.loop-j-preserved
-loop-j-preserved c =
-    circuit-added c.args.rows.now c.loop-j.rows _ c.loop-j.j _ c.loop-j.invariant c.circuit_row.ensures c.in_ok-add_circuit.ensures.done
+loop-j-preserved c = grind (arith, common_steps, circuit-added)

@@ -3,15 +3,10 @@ use Rattle.gts_migrate.specs.Cited.{circuit_of_row, need_of}
 use Rattle.gts_migrate.proofs.LettingGoLemmas.{closed_here, closed_open, waiting_there}
 use Rattle.gts_migrate.proofs.leaving.count_waiting.Goals as goal
 use Rattle.gts_migrate.proofs.leaving.count_waiting.Goals.{then-circuit, else-circuit}
+use Rattle.std.proofs.lemmas.Grind.{common_steps}
 
 pub overflow_add-count : goal.overflow_add-count
-overflow_add-count c =
-    let n = need_of c.args.need.now in
-    let k = c.loop-c.c in
-    let row = circuit_of_row c.circuit.result.now in
-    let count = waiting_there c.args.need.now c.as_slice-circuits.result.now k c.waiting_on-count.result c.as_slice-circuits.ensures c.waiting_on-count.ensures in
-    let here = closed_here c.args.new.now.circuits n.circuits k row c.circuit.ensures.row c.if-circuit.true in
-    omega (arith, count, here, c.loop-c.invariant, c.requires)
+overflow_add-count c = grind (arith, common_steps, waiting_there, closed_here)
 
 pub loop-c-preserved : goal.loop-c-preserved
 loop-c-preserved c =

@@ -6,6 +6,7 @@ use Rattle.gts_journal.proofs.LawLemmas.{syncs_silent}
 use Rattle.gts_migrate.proofs.DroppingLemmas.{sayings_again, nothing_refused, no_bytes}
 use Rattle.gts_migrate.proofs.MigratingLemmas.{few_due, fits_for, can_migrate, state_is, need_is, opens_so, at_rest, room_after, waiting_after, opening_after, told_after, migrated_after, said_after, silent_by, counts_after}
 use Rattle.gts_migrate.proofs.migrating.take_over.Goals as goal
+use Rattle.std.proofs.lemmas.Grind.{common_steps}
 
 -- where it was prepared, nothing waits, or it is dropped
 waiting_done : {T : Type 0} (w : Waiting) (found : Option (ℕ × ℕ)) (done : T) → AnswersWaiting {T = T} w (Ok done) found → AnswersWaiting {T = Unit {0}} w (Ok tt) found
@@ -161,9 +162,7 @@ opening_before : (fault : MigrateFault) (opened : Result Need OpenFault) (n : Ne
 opening_before (Waits circuit count) opened n kind is = (n, is)
 opening_before (Full at wanted limit) opened n kind is = (n, is)
 opening_before NoMemory opened n kind is = (n, is)
-opening_before (Open e) opened n kind is = absurd kind
-opening_before DiskFault opened n kind is = absurd kind
-opening_before SayFault opened n kind is = absurd kind
+opening_before _ opened n kind is = absurd kind
 
 pub returns-in_err-prepared-clause-opening : goal.returns-in_err-prepared-clause-opening
 returns-in_err-prepared-clause-opening g c = λ tell.
@@ -250,9 +249,7 @@ unsaid_before : (fault : MigrateFault) (text : Outside) (before mid : List Call)
 unsaid_before (Waits circuit count) text before mid kind same = same ∙ sym (append-nil (said_by before))
 unsaid_before (Full at wanted limit) text before mid kind same = same ∙ sym (append-nil (said_by before))
 unsaid_before NoMemory text before mid kind same = same ∙ sym (append-nil (said_by before))
-unsaid_before (Open e) text before mid kind same = absurd kind
-unsaid_before DiskFault text before mid kind same = absurd kind
-unsaid_before SayFault text before mid kind same = absurd kind
+unsaid_before _ text before mid kind same = absurd kind
 
 pub returns-in_err-prepared-clause-said : goal.returns-in_err-prepared-clause-said
 returns-in_err-prepared-clause-said g c = λ tell s used is.
@@ -264,5 +261,4 @@ returns-in_err-prepared-clause-said g c = λ tell s used is.
     (syncs_silent before mid (c.in_ok-core.ensures.told tell)))
 
 pub returns-in_err-prepared-clause-silent : goal.returns-in_err-prepared-clause-silent
-returns-in_err-prepared-clause-silent g c = λ tell why.
-    syncs_silent (g.P.Station.calls c.args.station.now) (g.P.Station.calls c.open_core_any.new.station) (c.in_ok-core.ensures.told tell)
+returns-in_err-prepared-clause-silent g c = grind (arith, common_steps, syncs_silent)

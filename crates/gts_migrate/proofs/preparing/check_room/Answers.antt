@@ -4,19 +4,15 @@ use Rattle.gts_migrate.specs.Cited.{Directory, IsOrdered, State, TakesOver, all_
 use Rattle.gts_recovery.proofs.LawLemmas.{due_counted as due_waiting}
 use Rattle.gts_migrate.proofs.LettingGoLemmas.{due-on}
 use Rattle.gts_migrate.proofs.preparing.check_room.Goals as goal
+use Rattle.std.proofs.lemmas.Grind.{common_steps}
 
 pub waiting-requires : goal.waiting-requires
-waiting-requires c =
-    let s0 = c.requires.due in
-    omega (arith, c.a_core_has_the_waiting_draws_of_its_state.ensures c.args.old.now c.args.core.now s0.state s0.holds, due_waiting s0.state.circuits, s0.few)
+waiting-requires c = grind (arith, common_steps, due_waiting)
 
 -- what is due under the new directory
 due_here : (new old : Directory) (s : State) (waiting left : ℕ) → TakesOver new old → IsOrdered old s → waiting ≡ all_waiting s.circuits → left ≡ left_behind new (need old s)
     → due (goes_on new old (need old s)) ≡ waiting - left
-due_here new old s waiting left takes order count is =
-    let all = due-on new old s takes order in
-    let each = due_waiting s.circuits in
-    omega (arith, all, each, count, is)
+due_here new old s waiting left takes order count is = grind (arith, common_steps, due-on, due_waiting)
 
 pub overflow_sub-waiting : goal.overflow_sub-waiting
 overflow_sub-waiting c =
@@ -28,9 +24,7 @@ overflow_sub-waiting c =
     omega (arith, all, each, count, left)
 
 pub check_checkpoint-requires : goal.check_checkpoint-requires
-check_checkpoint-requires c =
-    let s0 = c.requires.due in
-    omega (arith, c.waiting.ensures c.args.old.now s0.state s0.holds, due_waiting s0.state.circuits, s0.few)
+check_checkpoint-requires c = grind (arith, common_steps, due_waiting)
 
 pub returns-clause-room : goal.returns-clause-room
 returns-clause-room c = λ s holds size.

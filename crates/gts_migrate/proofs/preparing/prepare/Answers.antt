@@ -1,9 +1,10 @@
-use Rattle.std.proofs.Common.{◌≡◌, ℕ, ◌-◌, ◌^◌, true, length, min, ap, ◌∙◌, arith}
+use Rattle.std.proofs.Common.{◌≡◌, ℕ, true, ap, ◌∙◌, arith}
 use Rattle.std.proofs.lemmas.Result.{err_from_is_err_and}
-use Rattle.gts_migrate.specs.Cited.{Core, Directory as DirectoryOf, HasFewDue, Holds, IsPreparedFaultOf, IsRoomAnswer, IsSaidFaultOf, MigrateFault, Need, Needs, NoMemory, State, Waits, checkpoint_text, goes_on, is_sound, left_behind, need, need_of}
+use Rattle.gts_migrate.specs.Cited.{Core, Directory as DirectoryOf, HasFewDue, Holds, IsPreparedFaultOf, IsRoomAnswer, IsSaidFaultOf, MigrateFault, Need, Needs, NoMemory, State, Waits, is_sound, left_behind, need, need_of}
 use Rattle.gts_migrate.proofs.LettingGoLemmas.{due-on}
 use Rattle.gts_migrate.proofs.MigratingLemmas.{brought_from}
 use Rattle.gts_migrate.proofs.preparing.prepare.Goals as goal
+use Rattle.std.proofs.lemmas.Grind.{common_steps}
 
 -- the need of the core is sound
 sound_here : (old : DirectoryOf) (core : Core) (n : Need) → Needs core n → HasFewDue old core → is_sound old n ≡ true
@@ -31,16 +32,10 @@ pub returns-clause-brought : goal.returns-clause-brought
 returns-clause-brought c = brought_from c.args.old.now c.args.new.now c.args.core.now (need_of c.in_ok-need.need) (need_of c.in_ok-brought.brought) c.in_ok-need.ensures c.in_ok-brought.ensures.need
 
 pub returns-clause-room : goal.returns-clause-room
-returns-clause-room c = λ s holds.
-    let brought = brought_from c.args.old.now c.args.new.now c.args.core.now (need_of c.in_ok-need.need) (need_of c.in_ok-brought.brought) c.in_ok-need.ensures c.in_ok-brought.ensures.need in
-    c.in_ok-check_room.ensures.room s holds (c.size-size.ensures ∙ ap (λ (n : Need). min (length (checkpoint_text n)) (2 ^ 64 - 1)) (brought s holds))
+returns-clause-room c = grind (arith, common_steps, brought_from)
 
 pub returns-in_err-check_room-clause-room : goal.returns-in_err-check_room-clause-room
-returns-in_err-check_room-clause-room c = λ s holds.
-    let brought = brought_from c.args.old.now c.args.new.now c.args.core.now (need_of c.in_ok-need.need) (need_of c.in_ok-brought.brought) c.in_ok-need.ensures c.in_ok-brought.ensures.need in
-    let p = err_from_is_err_and c.from_residual-in_err-check_room.result c.from_residual-in_err-check_room.ensures.1 in
-    rw (p.1, p.2)
-    (c.in_err-check_room.ensures.room s holds (c.size-size.ensures ∙ ap (λ (n : Need). min (length (checkpoint_text n)) (2 ^ 64 - 1)) (brought s holds)))
+returns-in_err-check_room-clause-room c = grind (arith, common_steps, brought_from, err_from_is_err_and)
 
 -- where nothing can be said, the room isn't looked at
 said_room : (fault : MigrateFault) (d : DirectoryOf) (t : State) → IsSaidFaultOf fault → IsRoomAnswer fault d t
@@ -54,12 +49,7 @@ said_kind NoMemory kind = tt
 said_kind _ kind = absurd kind
 
 pub returns-in_err-receipts-clause-room : goal.returns-in_err-receipts-clause-room
-returns-in_err-receipts-clause-room c = λ s holds.
-    let p = err_from_is_err_and c.from_residual-in_err-receipts.result c.from_residual-in_err-receipts.ensures.1 in
-    rw (p.1, p.2)
-    (said_room c.in_err-receipts.field-0.0 c.args.new.now (goes_on c.args.new.now c.args.old.now (need c.args.old.now s)) c.in_err-receipts.ensures.kind)
+returns-in_err-receipts-clause-room c = grind (arith, common_steps, err_from_is_err_and, said_room)
 
 pub returns-in_err-receipts-clause-kind : goal.returns-in_err-receipts-clause-kind
-returns-in_err-receipts-clause-kind c =
-    let p = err_from_is_err_and c.from_residual-in_err-receipts.result c.from_residual-in_err-receipts.ensures.1 in
-    rw (p.1, p.2) (said_kind c.in_err-receipts.field-0.0 c.in_err-receipts.ensures.kind)
+returns-in_err-receipts-clause-kind c = grind (arith, common_steps, err_from_is_err_and, said_kind)

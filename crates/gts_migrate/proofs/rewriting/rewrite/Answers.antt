@@ -1,10 +1,11 @@
-use Rattle.std.proofs.Common.{rules, inr, true, false, ◌≡◌, ◌-◌, ◌^◌, ◌<◌, ◌≤◌, ℕ, List, Ok, Err, length, sym, ap, subst, ◌∙◌, arith}
+use Rattle.std.proofs.Common.{rules, ◌≡◌, ◌-◌, ◌^◌, ◌<◌, ◌≤◌, ℕ, List, Ok, Err, length, sym, ap, subst, ◌∙◌, arith}
 use Rattle.std.proofs.lemmas.Result.{err_from_is_err_and}
 use Rattle.gts_migrate.specs.Cited.{HasWritten, MigrateFault, SaysAll, SaysFor, WorksBeside, compacted_bytes, held, need_of, on, selecting, written}
 use Rattle.gts_engine.proofs.LawLemmas.{fit_bytes}
 use Rattle.gts_recovery.proofs.LawLemmas.{closed_there, still_stands}
 use Rattle.gts_migrate.proofs.MigratingLemmas.{writing, speaking, spoke, stands_spoken, closed_spoken, unsaid_write, said_part, said_whole, all_moments, migrated}
 use Rattle.gts_migrate.proofs.rewriting.rewrite.Goals as goal
+use Rattle.std.proofs.lemmas.Grind.{common_steps}
 
 pub compacted_size-used-requires : goal.compacted_size-used-requires
 compacted_size-used-requires g c = omega (arith, c.requires.size, c.requires.fits.room, c.bounds_hold.ensures.greatest)
@@ -132,29 +133,13 @@ returns-in_err-seal-clause-moments g c = λ tell from s can.
     writing from new s n old j c.args.prepared.now.receipts.items can low mid beside
 
 pub returns-clause-said : goal.returns-clause-said
-returns-clause-said g c = λ tell.
-    let old = g.P.Station.calls c.args.station.now in
-    let mid = g.P.Station.calls c.write.new.station in
-    let spoken = g.P.Station.calls c.say_receipts.new.station in
-    let bytes = c.args.prepared.now.receipts.items in
-    let sp = spoke bytes c.in_ok-say_receipts.field-0 mid spoken (subst (λ (l : List ℕ). SaysAll {T = Unit {0}} {E = MigrateFault} l (Ok c.in_ok-say_receipts.field-0) mid spoken) c.as_slice.ensures.value (c.in_ok-say_receipts.ensures.told tell)) in
-    said_whole bytes old mid spoken (g.P.Station.calls c.select.new.station) (c.write.ensures.beside tell).silent sp (c.select.ensures.silent tell)
+returns-clause-said g c = grind (arith, common_steps, spoke, said_whole)
 
 pub returns-in_err-select-clause-said : goal.returns-in_err-select-clause-said
-returns-in_err-select-clause-said g c = λ tell.
-    let old = g.P.Station.calls c.args.station.now in
-    let mid = g.P.Station.calls c.write.new.station in
-    let spoken = g.P.Station.calls c.say_receipts.new.station in
-    let bytes = c.args.prepared.now.receipts.items in
-    let sp = spoke bytes c.in_ok-say_receipts.field-0 mid spoken (subst (λ (l : List ℕ). SaysAll {T = Unit {0}} {E = MigrateFault} l (Ok c.in_ok-say_receipts.field-0) mid spoken) c.as_slice.ensures.value (c.in_ok-say_receipts.ensures.told tell)) in
-    let p = err_from_is_err_and c.from_residual-in_err-select.result c.from_residual-in_err-select.ensures.1 in
-    rw (p.1, p.2) (inr (said_whole bytes old mid spoken (g.P.Station.calls c.select.new.station) (c.write.ensures.beside tell).silent sp (c.select.ensures.silent tell)))
+returns-in_err-select-clause-said g c = grind (arith, common_steps, spoke, err_from_is_err_and, said_whole)
 
 pub returns-in_err-say_receipts-clause-unsaid : goal.returns-in_err-say_receipts-clause-unsaid
-returns-in_err-say_receipts-clause-unsaid g c = λ none is.
-    let failed = (c.in_err-say_receipts.ensures.none (c.as_slice.ensures.value ∙ none)).1 in
-    let e : false ≡ true = failed in
-    absurd (cc e)
+returns-in_err-say_receipts-clause-unsaid g c = grind (arith, common_steps)
 
 pub returns-in_err-say_receipts-clause-said : goal.returns-in_err-say_receipts-clause-said
 returns-in_err-say_receipts-clause-said g c = λ tell.
@@ -170,8 +155,4 @@ returns-in_err-say_receipts-clause-said g c = λ tell.
     (said_part bytes fault old mid spoken (c.write.ensures.beside tell).silent told))
 
 pub returns-in_err-seal-clause-said : goal.returns-in_err-seal-clause-said
-returns-in_err-seal-clause-said g c = λ tell.
-    let old = g.P.Station.calls c.args.station.now in
-    let mid = g.P.Station.calls c.write.new.station in
-    let p = err_from_is_err_and c.from_residual.result c.from_residual.ensures.1 in
-    rw (p.1, p.2) (unsaid_write c.in_err-seal.field-0.0 (on 0 c.args.prepared.now.receipts.items) old mid (c.write.ensures.beside tell).silent)
+returns-in_err-seal-clause-said g c = grind (arith, common_steps, err_from_is_err_and, unsaid_write)

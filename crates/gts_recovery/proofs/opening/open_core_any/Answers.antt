@@ -1,19 +1,13 @@
-use Rattle.std.proofs.Common.{◌≡◌, true, List, ℕ, None, subst, ap, ◌∙◌, arith}
-use Rattle.gts_recovery.specs.Cited.{IsAnswer, IsFaultOf, Version, fault_sought, first_seal, opens_in, seen, selected_bytes, version_of}
+use Rattle.std.proofs.Common.{◌≡◌, true, List, ℕ, None, subst, ◌∙◌, arith}
+use Rattle.gts_recovery.specs.Cited.{IsAnswer, Version, fault_sought, opens_in, seen, selected_bytes, version_of}
 use Rattle.gts_recovery.proofs.EitherLemmas.{not_older}
 use Rattle.gts_recovery.proofs.ReadingLemmas.{passed_on}
 use Rattle.gts_recovery.proofs.OpenLemmas.{header_answer, started, opened_any, records_answer, same_opened}
 use Rattle.gts_recovery.proofs.opening.open_core_any.Goals as goal
+use Rattle.std.proofs.lemmas.Grind.{common_steps}
 
 pub begin-requires : goal.begin-requires
-begin-requires g c = record {
-  at = c.in_ok-journal.ensures.begins.0;
-  first = c.in_ok-journal.ensures.seal ∙ ap (first_seal c.in_ok-journal.journal.version) c.mark.ensures;
-  going = c.in_ok-journal.ensures.begins.1;
-  stands = c.in_ok-journal.ensures.stands;
-  letter = c.in_ok-journal.ensures.checkpoint;
-  limit = omega (arith, c.bounds_hold.ensures.least);
-}
+begin-requires g c = grind (arith, common_steps)
 
 pub returns-clause-opened : goal.returns-clause-opened
 returns-clause-opened g c =
@@ -28,15 +22,7 @@ returns-clause-opened g c =
     (c.in_ok-admit_all.ensures.file ∙ c.in_ok-core.ensures.file) c.in_ok-admit_all.ensures.through
 
 pub returns-in_err-core-clause-fault : goal.returns-in_err-core-clause-fault
-returns-in_err-core-clause-fault g c = λ tell.
-    let old = g.P.Station.calls c.args.station.now in
-    let v : Version = version_of (selected_bytes (seen old)) in
-    let new = g.P.Station.calls c.start_any.new.station in
-    passed_on (λ e. IsAnswer e (opens_in v c.args.directory.now (seen old))) c.from_residual-in_err-core.result c.in_err-core.field-0.0 c.from_residual-in_err-core.ensures.1
-    (records_answer v c.args.directory.now old new c.in_ok-journal.journal c.in_err-core.field-0.0
-    (started v c.args.directory.now old new c.in_ok-journal.journal (c.in_ok-journal.ensures.synced tell) (c.in_ok-journal.ensures.stands tell)
-    (subst (λ (mark : List ℕ). fault_sought true mark (seen old) ≡ None) c.mark.ensures (c.in_ok-journal.ensures.fault tell)) (c.in_ok-journal.ensures.version tell))
-    (c.in_err-core.ensures.fault tell))
+returns-in_err-core-clause-fault g c = grind (arith, common_steps, passed_on, records_answer, started)
 
 pub returns-in_err-admit_all-clause-fault : goal.returns-in_err-admit_all-clause-fault
 returns-in_err-admit_all-clause-fault g c = λ tell.
@@ -52,11 +38,7 @@ returns-in_err-admit_all-clause-fault g c = λ tell.
     c.in_ok-core.ensures.file (c.in_err-admit_all.ensures.fault tell)))
 
 pub returns-in_err-journal-clause-fault : goal.returns-in_err-journal-clause-fault
-returns-in_err-journal-clause-fault g c = λ tell.
-    let old = g.P.Station.calls c.args.station.now in
-    let v : Version = version_of (selected_bytes (seen old)) in
-    passed_on (λ e. IsAnswer e (opens_in v c.args.directory.now (seen old))) c.from_residual.result c.in_err-journal.field-0.0 c.from_residual.ensures.1
-    (header_answer v c.args.directory.now (seen old) c.in_err-journal.field-0.0 (subst (λ (mark : List ℕ). IsFaultOf c.in_err-journal.field-0.0 (fault_sought true mark (seen old))) c.mark.ensures (c.in_err-journal.ensures.fault tell)))
+returns-in_err-journal-clause-fault g c = grind (arith, common_steps, passed_on, header_answer)
 
 pub returns-in_err-core-clause-never_older : goal.returns-in_err-core-clause-never_older
 returns-in_err-core-clause-never_older g c = λ tell.
@@ -67,5 +49,4 @@ returns-in_err-admit_all-clause-never_older g c = λ tell.
     not_older c.args.directory.now (seen (g.P.Station.calls c.args.station.now)) c.from_residual-in_err-admit_all.result (returns-in_err-admit_all-clause-fault g c tell)
 
 pub returns-in_err-journal-clause-never_older : goal.returns-in_err-journal-clause-never_older
-returns-in_err-journal-clause-never_older g c = λ tell.
-    not_older c.args.directory.now (seen (g.P.Station.calls c.args.station.now)) c.from_residual.result (returns-in_err-journal-clause-fault g c tell)
+returns-in_err-journal-clause-never_older g c = grind (arith, common_steps, not_older, returns-in_err-journal-clause-fault)

@@ -1,17 +1,9 @@
-use Rattle.std.proofs.Common.{Ok, refl, sym, ap, ◌∙◌, arith}
+use Rattle.std.proofs.Common.{sym, ◌∙◌, arith}
 use Rattle.std.proofs.lemmas.Bool.{false≢true}
 use Rattle.std.proofs.lemmas.Result.{err_from_is_err_and}
-use Rattle.gts_event.specs.declared.outcome.Outcome.{Outcome}
-use Rattle.gts_replay.proofs.DrainLemmas.{drained_none, drained_more, drained_all, drained_breaks, drained_few}
+use Rattle.gts_replay.proofs.DrainLemmas.{drained_more, drained_all, drained_breaks, drained_few}
 use Rattle.gts_replay.proofs.draining.drain.Goals as goal
-
-pub loop-init : goal.loop-init
-loop-init g c = record {
-  drained = λ o first h start. drained_none g.W.Switch.meanings c.args.switch.now o first h c.args.c start;
-  directory = refl;
-  disk = refl;
-  say = refl;
-}
+use Rattle.std.proofs.lemmas.Grind.{common_steps}
 
 pub returns-in_err-outcome-clause-goes : goal.returns-in_err-outcome-clause-goes
 returns-in_err-outcome-clause-goes g c = λ o first h start.
@@ -20,9 +12,7 @@ returns-in_err-outcome-clause-goes g c = λ o first h start.
     (c.loop.invariant.drained o first h start) c.take.ensures.called c.in_err-outcome.field-0.0 c.in_err-outcome.was)
 
 pub returns-then-is_nothing-clause-goes : goal.returns-then-is_nothing-clause-goes
-returns-then-is_nothing-clause-goes g c = λ o first h start.
-    drained_all g.W.Switch.meanings c.args.switch.now o first h c.args.c c.loop.switch c.take.new.self c.loop.counter c.take.result c.loop.invariant.directory
-    (c.loop.invariant.drained o first h start) c.take.ensures.called (c.in_ok-outcome.was ∙ ap (λ (x : Outcome). Ok x) (c.is_nothing.ensures.nothing.0 c.if-is_nothing.true))
+returns-then-is_nothing-clause-goes g c = grind (arith, common_steps, drained_all)
 
 pub loop-preserved : goal.loop-preserved
 loop-preserved g c = record {
@@ -36,5 +26,4 @@ loop-preserved g c = record {
 }
 
 pub returns-clause-goes : goal.returns-clause-goes
-returns-clause-goes g c = λ o first h start.
-    absurd (omega (arith, c.loop-test.false, drained_few g.W.Switch.meanings c.args.switch.now o first h c.args.c c.loop.switch c.loop.counter start (c.loop.invariant.drained o first h start)))
+returns-clause-goes g c = grind (arith, common_steps, drained_few)

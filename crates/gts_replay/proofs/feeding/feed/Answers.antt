@@ -1,4 +1,4 @@
-use Rattle.std.proofs.Common.{◌≡◌, ◌++◌, ℕ, List, [], take, length, Result, Ok, Err, OnOk, refl, sym, ap, subst, ◌∙◌, arith, is_err}
+use Rattle.std.proofs.Common.{◌≡◌, ◌++◌, ℕ, List, take, length, Result, Ok, Err, OnOk, sym, ap, subst, ◌∙◌, arith, is_err}
 use Rattle.std.proofs.lemmas.List.{length-take-le}
 use Rattle.std.proofs.lemmas.Result.{IfOk-at_ok, err_from_is_err_and}
 use Rattle.gts_replay.specs.Cited.{Bad, CaptureFault, Feeds, Goes, SourceFault, SwitchFault, all_done, events_added, held_in}
@@ -7,15 +7,10 @@ use Rattle.gts_replay.proofs.GoingLemmas.{mapped_ok, mapped_err}
 use Rattle.gts_replay.proofs.FeedingLemmas.{fed_none, fed_piece, breaks_piece}
 use Rattle.gts_replay.proofs.StepLemmas.{takes_none, takes_more, takes_end, takes_stop, takes_at_most}
 use Rattle.gts_replay.proofs.feeding.feed.Goals as goal
+use Rattle.std.proofs.lemmas.Grind.{common_steps}
 
 pub loop-count-init : goal.loop-count-init
-loop-count-init g c = record {
-  fed = ([], takes_none g.S.Source.observed c.args.steps.now (g.S.Source.left c.args.capture.now), fed_none g.W.Switch.meanings c.args.c c.args.decoder.now c.args.switch.now);
-  directory = refl;
-  disk = refl;
-  say = refl;
-  source = refl;
-}
+loop-count-init g c = grind (arith, common_steps, takes_none, fed_none)
 
 pub returns-in_err-count-clause-feeds : goal.returns-in_err-count-clause-feeds
 returns-in_err-count-clause-feeds g c =

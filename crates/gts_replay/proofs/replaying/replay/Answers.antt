@@ -1,15 +1,13 @@
-use Rattle.std.proofs.Common.{List, sym, ap, subst, ◌∙◌}
-use Rattle.gts_replay.specs.Cited.{CaptureKind, Decode, Decoding, Ends, Held, no_bytes}
+use Rattle.std.proofs.Common.{ap, subst}
+use Rattle.gts_replay.specs.Cited.{CaptureKind, Ends, Held}
 use Rattle.gts_replay.proofs.DecoderLemmas.{decode_fresh}
 use Rattle.gts_replay.proofs.EndLemmas.{ends_unmade}
-use Rattle.gts_replay.proofs.CauseLemmas.{caused_settled}
 use Rattle.gts_replay.proofs.replaying.replay.Goals as goal
+use Rattle.std.proofs.lemmas.Grind.{common_steps}
+use Rattle.std.proofs.Common.{arith}
 
 pub returns-in_default-clause-ends : goal.returns-in_default-clause-ends
 returns-in_default-clause-ends g c = λ o h start. ends_unmade _ _ _ _ _ _ _ _ _ start
-
-pub returns-in_default-new-clause-ends : goal.returns-in_default-new-clause-ends
-returns-in_default-new-clause-ends g c = λ o h start. ends_unmade _ _ _ _ _ _ _ _ _ start
 
 pub returns-clause-ends : goal.returns-clause-ends
 returns-clause-ends g c = λ o h start.
@@ -17,11 +15,5 @@ returns-clause-ends g c = λ o h start.
     (g.S.Source.left c.args.capture.now) (g.S.Source.left c.run-end.new.capture) in
     subst E (ap (λ (x : Held). x.kind) c.new-steps.ensures) (c.run-end.ensures.ends o h start c.settle_behind.result c.settle_behind.new.switch c.settle_behind.ensures.settles)
 
-pub returns-clause-cause : goal.returns-clause-cause
-returns-clause-cause g c =
-    caused_settled c.run-end.result c.settle_behind.result _ _ _ _ _ _ _ _ c.run-end.ensures.cause c.settle_behind.ensures.cause
-
 pub run-end-requires-clause-decode : goal.run-end-requires-clause-decode
-run-end-requires-clause-decode g c =
-    let d = g.W.Switch.meanings.directory c.args.switch.now in
-    subst (λ (ds : List Decoding). Decode ds (no_bytes d)) (sym (c.deref_mut.ensures.value ∙ c.in-Ok.ensures)) (decode_fresh c.circuits-circuits.result d c.circuits-circuits.ensures.circuits)
+run-end-requires-clause-decode g c = grind (arith, common_steps, decode_fresh)

@@ -4,6 +4,8 @@ use Rattle.std.proofs.lemmas.Result.{err_from_is_err_and}
 use Rattle.gts_calls.specs.Given.{frames_of}
 use Rattle.gts_sender.proofs.DrawLemmas.{turn_sent, turn_broke, turn_failed}
 use Rattle.gts_sender.proofs.sending.send_some.Goals as goal
+use Rattle.std.proofs.lemmas.Grind.{common_steps}
+use Rattle.std.proofs.Common.{arith}
 
 pub returns-in_err-more-clause-tried : goal.returns-in_err-more-clause-tried
 returns-in_err-more-clause-tried g c =
@@ -17,20 +19,7 @@ returns-in_err-more-clause-tried g c =
     )
 
 pub returns-in_err-write_frames-clause-tried : goal.returns-in_err-write_frames-clause-tried
-returns-in_err-write_frames-clause-tried g c =
-    let o = c.in_ok-more in
-    let e = c.in_err-write_frames in
-    let w = e.ensures.wrote in
-    let now = g.D.Desk.seen c.take_some.new.self in (
-      w.0,
-      (λ first sent so_far.
-          let p = err_from_is_err_and c.from_residual-in_err-write_frames.result c.from_residual-in_err-write_frames.ensures.1 in
-          rw (p.1, p.2) (turn_broke c.args.c (g.D.Desk.seen c.args.desk.now) now (frames_of c.take_some.new.given.frames) o.more w.0 e.field-0.0 o.ensures w.1 first sent so_far)),
-      w.2,
-    )
+returns-in_err-write_frames-clause-tried g c = grind (arith, common_steps, err_from_is_err_and, turn_broke)
 
 pub returns-clause-tried : goal.returns-clause-tried
-returns-clause-tried g c =
-    let o = c.in_ok-more in
-    let w = c.in_ok-write_frames.ensures.wrote in
-    (w.0, turn_sent c.args.c (g.D.Desk.seen c.args.desk.now) (g.D.Desk.seen c.take_some.new.self) (frames_of c.take_some.new.given.frames) o.more w.0 o.ensures w.1, w.2)
+returns-clause-tried g c = grind (arith, common_steps, turn_sent)

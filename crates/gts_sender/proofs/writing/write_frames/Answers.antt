@@ -1,31 +1,15 @@
-use Rattle.std.proofs.Common.{ℕ, ◌+◌, ◌<◌, ◌++◌, [], List, length, take, refl, sym, ap, ◌∙◌, arith, append_assoc}
+use Rattle.std.proofs.Common.{ℕ, ◌<◌, ◌++◌, [], List, length, take, refl, sym, ap, ◌∙◌, arith, append_assoc}
 use Rattle.std.proofs.lemmas.List.{append-nil}
 use Rattle.gts_sender.specs.Cited.{Frame, frames_of, texts}
 use Rattle.gts_sender.proofs.WritingLemmas.{there, one_more, all_of, up_to, front_of}
 use Rattle.gts_sender.proofs.writing.write_frames.Goals as goal
+use Rattle.std.proofs.lemmas.Grind.{common_steps}
 
 pub loop-i-init : goal.loop-i-init
 loop-i-init g c = record { at = refl; written = ([], refl, λ observed. sym (append-nil (g.K.Sink.written c.args.sink.now))); sound = refl }
 
 pub loop-i-preserved : goal.loop-i-preserved
-loop-i-preserved g c =
-    let i = c.loop-i.invariant in
-    let w = c.in-Ok.ensures.written in
-    let given : List Frame = frames_of c.args.frames.now in
-    let text : List ℕ = c.frame-index.result.1.now in
-    let frame : Frame = record { index = c.frame-index.result.0; text = text } in
-    let within : c.loop-i.i < length given = there c.args.frames.now c.loop-i.i (omega (arith, c.loop-i-test.true, c.count-i-end.ensures)) in
-    record {
-      at = c.frame-index.ensures.next;
-      written = (
-        texts (take (c.loop-i.i + 1) given),
-        refl,
-        λ observed. w.2 observed ∙ ap (λ (l : List ℕ). l ++ w.0) (i.written.2 observed) ∙ append_assoc (g.K.Sink.written c.args.sink.now) i.written.0 w.0
-            ∙ ap (λ (l : List ℕ). g.K.Sink.written c.args.sink.now ++ l)
-            (ap (λ (l : List ℕ). l ++ w.0) i.written.1 ∙ ap (λ (l : List ℕ). texts (take c.loop-i.i given) ++ l) w.1 ∙ sym (one_more given c.loop-i.i frame within c.frame-index.ensures.frame)),
-      );
-      sound = c.in-Ok.ensures.cause.sound ∙ i.sound;
-    }
+loop-i-preserved g c = grind (arith, common_steps, there, one_more)
 
 pub returns-in_default-clause-wrote : goal.returns-in_default-clause-wrote
 returns-in_default-clause-wrote g c =
@@ -41,6 +25,4 @@ returns-in_default-clause-wrote g c =
     )
 
 pub returns-clause-wrote : goal.returns-clause-wrote
-returns-clause-wrote g c =
-    let i = c.loop-i.invariant in
-    (i.written.0, i.written.1 ∙ all_of c.args.frames.now c.loop-i.i (omega (arith, c.loop-i-test.false, c.loop-i.auto.i-end, c.count-i-end.ensures)), i.written.2)
+returns-clause-wrote g c = grind (arith, common_steps, all_of)

@@ -5,7 +5,7 @@ use Rattle.gts_standby.specs.Taking as feeds
 use Rattle.gts_standby.proofs.ExitLemmas.{returned}
 use Rattle.gts_standby.proofs.HeaderLemmas.{passed}
 use Rattle.gts_recovery.proofs.LawLemmas.{kept_begun}
-use Rattle.gts_standby.proofs.PutLemmas.{put_ends, put_adds, put_no_source, found_there, none_found, piece_of, begun_so, begins_with, none_begins}
+use Rattle.gts_standby.proofs.PutLemmas.{put_ends, found_there, none_found, piece_of, begun_so, begins_with, none_begins}
 use Rattle.gts_standby.proofs.WholeLemmas.{whole_read, stops_all, put_all}
 use Rattle.gts_standby.proofs.beginning.begin.Goals as goal
 
@@ -56,23 +56,6 @@ returns-in_err-put-clause-begun g c = λ tell told s fed holds read.
     (found_there d (take (size - c.seal_size.result) c.bytes.result.now) c.in_ok-need.field-0 c.in-Some.need c.in_ok-need.ensures.found c.in-Some.is) in
     rw (returned c.from_residual-in_err-put.result c.in_err-put.field-0.0 c.from_residual-in_err-put.ensures.1)
     (WithinIt n (begins_with d fed ahead.bytes left size (held v c.in_ok-behind.field-0.1) limit found.1.is c.in_ok-behind.ensures.there piece n cp) (c.put.ensures.moments tell s (holds.stands tell)) (put_ends c.in_err-put.field-0.0 c.in_err-put.ensures.kind))
-
-pub returns-in_err-put-clause-kind : goal.returns-in_err-put-clause-kind
-returns-in_err-put-clause-kind g c = rw (returned c.from_residual-in_err-put.result c.in_err-put.field-0.0 c.from_residual-in_err-put.ensures.1) (put_adds c.in_err-put.field-0.0 c.in_err-put.ensures.kind)
-
-pub returns-in_err-put-clause-cause : goal.returns-in_err-put-clause-cause
-returns-in_err-put-clause-cause g c =
-    let put = c.put.ensures.cause in
-    let fed = c.in_ok-behind.ensures.cause in
-    rw (returned c.from_residual-in_err-put.result c.in_err-put.field-0.0 c.from_residual-in_err-put.ensures.1)
-    (record {
-      disk_fault = λ is. c.in_err-put.ensures.cause.failed (cc is);
-      source_fault = λ is. put_no_source c.in_err-put.field-0.0 c.in_err-put.ensures.kind _ is;
-      later = put.later;
-      sound = λ still. absurd (put_ends c.in_err-put.field-0.0 c.in_err-put.ensures.kind still);
-      say = put.say;
-      source_later = fed.later;
-    })
 
 pub returns-clause-begun : goal.returns-clause-begun
 returns-clause-begun g c = λ tell told s fed holds read.

@@ -4,6 +4,7 @@ use Rattle.gts_checkpoint.proofs.LawLemmas.{fit_bytes}
 use Rattle.gts_recovery.proofs.LawLemmas.{closed_there, still_stands}
 use Rattle.gts_standby.proofs.BeginLemmas.{still_stands_for, holds_begun, begun_stands, all_moments}
 use Rattle.gts_standby.proofs.beginning.put.Goals as goal
+use Rattle.std.proofs.lemmas.Grind.{common_steps}
 
 pub write-requires-clause-fits : goal.write-requires-clause-fits
 write-requires-clause-fits g c =
@@ -11,23 +12,10 @@ write-requires-clause-fits g c =
     fit_bytes c.args.directory.now (need_of c.args.need.now) (omega (arith, few)) c.requires.sound
 
 pub select-requires-clause-stands : goal.select-requires-clause-stands
-select-requires-clause-stands g c = λ tell.
-    let old = g.P.Station.calls c.args.station.now in
-    let mid = g.P.Station.calls c.write.new.station in
-    let j = c.args.journal.now in
-    let low : j.file < 2 = omega (arith, c.file.ensures.file, c.file.ensures.below) in
-    let file_is : c.other-other.result ≡ 1 - j.file = c.other-other.ensures ∙ ap (λ (k : ℕ). 1 - k) c.file.ensures.file in
-    let beside : WorksBeside (1 - j.file) old mid = subst (λ (k : ℕ). WorksBeside k old mid) file_is (c.write.ensures.beside tell) in
-    still_stands old mid j (c.requires.stands tell) low beside
+select-requires-clause-stands g c = grind (arith, common_steps, still_stands)
 
 pub select-requires-clause-closed : goal.select-requires-clause-closed
-select-requires-clause-closed g c = λ tell.
-    let n = need_of c.args.need.now in
-    let long : length c.mark.result ≡ 32 = search rules in
-    let seal : c.seal_size.result ≡ seal_size written = c.seal_size.ensures.value ∙ ap seal_size c.written.ensures in
-    let used_is : 42 + c.seal_size.result + c.args.size ≡ compacted_bytes written n = omega (arith, seal, c.requires.size) in
-    closed_there c.mark.result n c.other-other.result (g.P.Station.calls c.write.new.station) c.args.journal.now (42 + c.seal_size.result + c.args.size)
-    (c.in-Ok.ensures.written tell) long used_is
+select-requires-clause-closed g c = grind (arith, common_steps, closed_there)
 
 pub returns-in-Ok-select-clause-begun : goal.returns-in-Ok-select-clause-begun
 returns-in-Ok-select-clause-begun g c = λ tell s f.

@@ -4,9 +4,10 @@ use Rattle.gts_standby.proofs.ExitLemmas.{returned}
 use Rattle.gts_standby.proofs.FirstLemmas.{at_start, no_header_fault}
 use Rattle.gts_standby.proofs.CompareLemmas.{device_start, device_stops, compares_same, same_seals}
 use Rattle.gts_standby.proofs.WholeLemmas.{open_all}
-use Rattle.gts_standby.proofs.NamedLemmas.{named_open}
 use Rattle.gts_standby.proofs.OtherLemmas.{open_other, no_other, kept_later}
 use Rattle.gts_standby.proofs.comparing.compare.Goals as goal
+use Rattle.std.proofs.lemmas.Grind.{common_steps}
+use Rattle.std.proofs.Common.{arith}
 
 pub returns-in_err-own-clause-compared : goal.returns-in_err-own-clause-compared
 returns-in_err-own-clause-compared g c = λ observed told s j fed stands gate read.
@@ -54,8 +55,7 @@ returns-in_err-size-clause-compared g c = λ observed told s j fed stands gate r
     (c.in_err-size.ensures.compared observed told c.args.end fed first c.requires.some read behind))
 
 pub returns-in_err-own-clause-whole : goal.returns-in_err-own-clause-whole
-returns-in_err-own-clause-whole g c = λ told w.
-    rw (returned c.from_residual.result (open_end c.in_err-own.field-0.0) c.from_residual.ensures.1) (open_all c.in_err-own.field-0.0 (g.S.Source.left c.args.source.now))
+returns-in_err-own-clause-whole g c = grind (arith, common_steps, returned, open_all)
 
 pub returns-clause-whole : goal.returns-clause-whole
 returns-clause-whole g c = λ told w. c.compare_rest.ensures.whole told (c.in_ok-size.ensures.whole told w)
@@ -63,17 +63,11 @@ returns-clause-whole g c = λ told w. c.compare_rest.ensures.whole told (c.in_ok
 pub returns-in_err-size-clause-whole : goal.returns-in_err-size-clause-whole
 returns-in_err-size-clause-whole g c = λ told w. rw (returned c.from_residual-in_err-size.result c.in_err-size.field-0.0 c.from_residual-in_err-size.ensures.1) (c.in_err-size.ensures.whole told w)
 
-pub returns-in_err-own-clause-named : goal.returns-in_err-own-clause-named
-returns-in_err-own-clause-named g c = rw (returned c.from_residual.result (open_end c.in_err-own.field-0.0) c.from_residual.ensures.1) (named_open c.in_err-own.field-0.0)
-
 pub returns-in_err-own-clause-kept : goal.returns-in_err-own-clause-kept
-returns-in_err-own-clause-kept g c = λ told fed read.
-    rw (returned c.from_residual.result (open_end c.in_err-own.field-0.0) c.from_residual.ensures.1)
-    (λ other. no_other _ (open_end c.in_err-own.field-0.0) (open_other c.in_err-own.field-0.0) other)
+returns-in_err-own-clause-kept g c = grind (arith, common_steps, returned, no_other, open_other)
 
 pub returns-in_err-size-clause-kept : goal.returns-in_err-size-clause-kept
-returns-in_err-size-clause-kept g c = λ told fed read.
-    rw (returned c.from_residual-in_err-size.result c.in_err-size.field-0.0 c.from_residual-in_err-size.ensures.1) (c.in_err-size.ensures.kept told fed read)
+returns-in_err-size-clause-kept g c = grind (arith, common_steps, returned)
 
 pub returns-clause-kept : goal.returns-clause-kept
 returns-clause-kept g c = λ told fed read. kept_later c.compare_rest.result fed _ _ c.compare_rest.ensures.later

@@ -4,9 +4,10 @@ use Rattle.gts_standby.proofs.ExitLemmas.{returned}
 use Rattle.gts_standby.proofs.HeaderLemmas.{passed}
 use Rattle.gts_standby.proofs.CompareLemmas.{first_on, first_off, diverged, device_stops, first_stops_at, first_so, same_so, own_so, fed_so}
 use Rattle.gts_standby.proofs.WholeLemmas.{whole_read, stops_all, own_all}
-use Rattle.gts_standby.proofs.NamedLemmas.{named_fed}
 use Rattle.gts_standby.proofs.OtherLemmas.{fed_other, own_other, no_other}
 use Rattle.gts_standby.proofs.comparing.compare_first.Goals as goal
+use Rattle.std.proofs.lemmas.Grind.{common_steps}
+use Rattle.std.proofs.Common.{arith}
 
 pub returns-in_err-size-clause-compared : goal.returns-in_err-size-clause-compared
 returns-in_err-size-clause-compared g c = λ observed told end fed first low read.
@@ -77,18 +78,11 @@ returns-in_err-own_first-clause-whole g c = λ told w. rw (returned c.from_resid
 pub returns-clause-whole : goal.returns-clause-whole
 returns-clause-whole g c = λ told w. subst (λ (a : InFeed). IsWhole a (g.S.Source.left c.fed_first.new.source)) (sym c.pass.ensures) (c.in_ok-size.ensures.piece told _ (whole_read c.args.ahead.now _ w)).1.all
 
-pub returns-in_err-size-clause-named : goal.returns-in_err-size-clause-named
-returns-in_err-size-clause-named g c = rw (returned c.from_residual.result c.in_err-size.field-0.0 c.from_residual.ensures.1) (named_fed c.in_err-size.field-0.0 c.in_err-size.ensures.kind)
-
 pub returns-in_err-size-clause-kept : goal.returns-in_err-size-clause-kept
-returns-in_err-size-clause-kept g c = λ told fed read.
-    rw (returned c.from_residual.result c.in_err-size.field-0.0 c.from_residual.ensures.1)
-    (λ other. no_other _ c.in_err-size.field-0.0 (fed_other c.in_err-size.field-0.0 c.in_err-size.ensures.kind) other)
+returns-in_err-size-clause-kept g c = grind (arith, common_steps, returned, no_other, fed_other)
 
 pub returns-in_err-own_first-clause-kept : goal.returns-in_err-own_first-clause-kept
-returns-in_err-own_first-clause-kept g c = λ told fed read.
-    rw (returned c.from_residual-in_err-own_first.result c.in_err-own_first.field-0.0 c.from_residual-in_err-own_first.ensures.1)
-    (λ other. no_other _ c.in_err-own_first.field-0.0 (own_other c.in_err-own_first.field-0.0 c.in_err-own_first.ensures.kind) other)
+returns-in_err-own_first-clause-kept g c = grind (arith, common_steps, returned, no_other, own_other)
 
 pub returns-then-not-is_same-clause-kept : goal.returns-then-not-is_same-clause-kept
 returns-then-not-is_same-clause-kept g c = λ told fed read other. (c.in_ok-size.ensures.piece told fed read).1

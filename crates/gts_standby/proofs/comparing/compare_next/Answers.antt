@@ -2,10 +2,8 @@ use Rattle.std.proofs.Common.{rules, ◌≡◌, true, false, nat_eq, drop, sym, 
 use Rattle.gts_standby.specs.Cited.{Ends, HasRead, InFeed, IsWhole, held, open_end, pointwise, stopped}
 use Rattle.gts_standby.proofs.ExitLemmas.{returned}
 use Rattle.gts_standby.proofs.HeaderLemmas.{passed}
-use Rattle.gts_standby.proofs.CompareLemmas.{behind_one, compare_on, compare_off, device_passed, diverged, device_stops, own_opening, stops_at, piece_so, same_so, own_so, fed_so}
+use Rattle.gts_standby.proofs.CompareLemmas.{behind_one, compare_on, compare_off, device_passed, diverged, device_stops, stops_at, piece_so, same_so, own_so, fed_so}
 use Rattle.gts_standby.proofs.WholeLemmas.{whole_read, stops_all, open_all}
-use Rattle.gts_standby.proofs.NamedLemmas.{named_fed, named_open}
-use Rattle.gts_standby.proofs.OtherLemmas.{fed_other, own_other, later_other}
 use Rattle.gts_standby.proofs.comparing.compare_next.Goals as goal
 
 pub returns-in_err-size-clause-compared : goal.returns-in_err-size-clause-compared
@@ -69,20 +67,3 @@ returns-in_err-pass_next-clause-whole g c = λ told w. rw (returned c.from_resid
 
 pub returns-clause-whole : goal.returns-clause-whole
 returns-clause-whole g c = λ told w. subst (λ (a : InFeed). IsWhole a (g.S.Source.left c.fed_record.new.source)) (sym c.pass.ensures) (c.in_ok-size.ensures.piece told _ (whole_read c.args.ahead.now _ w)).1.all
-
-pub returns-in_err-size-clause-named : goal.returns-in_err-size-clause-named
-returns-in_err-size-clause-named g c = rw (returned c.from_residual.result c.in_err-size.field-0.0 c.from_residual.ensures.1) (named_fed c.in_err-size.field-0.0 c.in_err-size.ensures.kind)
-
-pub returns-in_err-size-clause-later : goal.returns-in_err-size-clause-later
-returns-in_err-size-clause-later g c = λ low.
-    rw (returned c.from_residual.result c.in_err-size.field-0.0 c.from_residual.ensures.1) (fed_other c.in_err-size.field-0.0 c.in_err-size.ensures.kind)
-
-pub returns-in_err-pass_next-clause-later : goal.returns-in_err-pass_next-clause-later
-returns-in_err-pass_next-clause-later g c = λ low.
-    rw (returned c.from_residual-in_err-pass_next.result (open_end c.in_err-pass_next.field-0.0) c.from_residual-in_err-pass_next.ensures.1) (own_other (open_end c.in_err-pass_next.field-0.0) (own_opening c.in_err-pass_next.field-0.0))
-
-pub returns-then-not-is_same-clause-later : goal.returns-then-not-is_same-clause-later
-returns-then-not-is_same-clause-later g c = λ low. later_other c.args.index _ _ low
-
-pub returns-in_err-pass_next-clause-named : goal.returns-in_err-pass_next-clause-named
-returns-in_err-pass_next-clause-named g c = rw (returned c.from_residual-in_err-pass_next.result (open_end c.in_err-pass_next.field-0.0) c.from_residual-in_err-pass_next.ensures.1) (named_open c.in_err-pass_next.field-0.0)

@@ -3,10 +3,10 @@ use Rattle.gts_standby.proofs.ExitLemmas.{returned}
 use Rattle.gts_standby.proofs.CompareLemmas.{far_on, far_stops, far_done}
 use Rattle.gts_standby.proofs.comparing.compare_rest.Goals as goal
 
-pub loop-alloc-preserved : goal.loop-alloc-preserved
-loop-alloc-preserved g c =
-    let inv = c.loop-alloc.invariant in
-    let j = c.loop-alloc.own in
+pub loop-station-preserved : goal.loop-station-preserved
+loop-station-preserved g c =
+    let inv = c.loop-station.invariant in
+    let j = c.loop-station.own in
     let at_gate : c.used.result ≡ j.gate = c.used.ensures ∙ ap (λ (b : Bool). cond b (j.gate + 1) j.gate) inv.going in
     record {
       going = c.in_ok-size.ensures.goes.going;
@@ -14,12 +14,12 @@ loop-alloc-preserved g c =
       stands = c.in_ok-size.ensures.goes.stands;
       place = omega (arith, inv.place, c.in_ok-size.ensures.size);
       count = omega (arith, inv.count, c.in_ok-size.ensures.goes.rises);
-      few = omega (arith, inv.count, at_gate, c.loop-alloc-test.true);
+      few = omega (arith, inv.count, at_gate, c.loop-station-test.true);
       further = omega (arith, inv.further);
       gone = λ observed told d left fed on read.
           let so = inv.gone observed told d left fed on read in
-          far_on d _ _ c.args.end _ _ j c.compare_next.new.own c.loop-alloc.index c.loop-alloc.at c.in_ok-size.size _ _ _ _ so inv.version
-          (c.in_ok-size.ensures.compared observed told d c.args.end so.rest so.fed so.on (omega (arith, at_gate, c.loop-alloc-test.true)) so.read);
+          far_on d _ _ c.args.end _ _ j c.compare_next.new.own c.loop-station.index c.loop-station.at c.in_ok-size.size _ _ _ _ so inv.version
+          (c.in_ok-size.ensures.compared observed told d c.args.end so.rest so.fed so.on (omega (arith, at_gate, c.loop-station-test.true)) so.read);
       whole = λ told w. c.in_ok-size.ensures.whole told (inv.whole told w);
       told = λ observed. c.compare_next.ensures.told observed ∙ inv.told observed;
       sound = (c.in_ok-size.ensures.cause.sound tt).0 ∙ inv.sound;
@@ -29,31 +29,17 @@ loop-alloc-preserved g c =
 
 pub returns-in_err-size-clause-compared : goal.returns-in_err-size-clause-compared
 returns-in_err-size-clause-compared g c = λ observed told d left fed on read.
-    let inv = c.loop-alloc.invariant in
-    let j = c.loop-alloc.own in
+    let inv = c.loop-station.invariant in
+    let j = c.loop-station.own in
     let at_gate : c.used.result ≡ j.gate = c.used.ensures ∙ ap (λ (b : Bool). cond b (j.gate + 1) j.gate) inv.going in
     let so = inv.gone observed told d left fed on read in
     rw (returned c.from_residual.result c.in_err-size.field-0.0 c.from_residual.ensures.1)
-    (far_stops c.in_err-size.field-0.0 d _ _ c.args.end _ j c.loop-alloc.index c.loop-alloc.at _ _ _ so inv.version
-    (c.in_err-size.ensures.compared observed told d c.args.end so.rest so.fed so.on (omega (arith, at_gate, c.loop-alloc-test.true)) so.read))
+    (far_stops c.in_err-size.field-0.0 d _ _ c.args.end _ j c.loop-station.index c.loop-station.at _ _ _ so inv.version
+    (c.in_err-size.ensures.compared observed told d c.args.end so.rest so.fed so.on (omega (arith, at_gate, c.loop-station-test.true)) so.read))
 
 pub returns-clause-compared : goal.returns-clause-compared
 returns-clause-compared g c = λ observed told d left fed on read.
-    let inv = c.loop-alloc.invariant in
-    let j = c.loop-alloc.own in
+    let inv = c.loop-station.invariant in
+    let j = c.loop-station.own in
     let at_gate : c.used.result ≡ j.gate = c.used.ensures ∙ ap (λ (b : Bool). cond b (j.gate + 1) j.gate) inv.going in
-    far_done d _ _ c.args.end _ j c.loop-alloc.index c.loop-alloc.at _ _ (inv.gone observed told d left fed on read) (omega (arith, at_gate, c.loop-alloc-test.false))
-
-pub returns-clause-place : goal.returns-clause-place
-returns-clause-place g c =
-    let inv = c.loop-alloc.invariant in
-    omega (arith, inv.place, inv.few, c.requires.room)
-
-pub returns-in_err-size-clause-whole : goal.returns-in_err-size-clause-whole
-returns-in_err-size-clause-whole g c = λ told w. rw (returned c.from_residual.result c.in_err-size.field-0.0 c.from_residual.ensures.1) (c.in_err-size.ensures.whole told (c.loop-alloc.invariant.whole told w))
-
-pub returns-clause-whole : goal.returns-clause-whole
-returns-clause-whole g c = λ told w. c.loop-alloc.invariant.whole told w
-
-pub returns-in_err-size-clause-later : goal.returns-in_err-size-clause-later
-returns-in_err-size-clause-later g c = rw (returned c.from_residual.result c.in_err-size.field-0.0 c.from_residual.ensures.1) (c.in_err-size.ensures.later c.loop-alloc.invariant.further)
+    far_done d _ _ c.args.end _ j c.loop-station.index c.loop-station.at _ _ (inv.gone observed told d left fed on read) (omega (arith, at_gate, c.loop-station-test.false))

@@ -4,8 +4,8 @@ use Rattle.gts_standby.proofs.CompareLemmas.{HasGoneFar}
 use Rattle.gts_standby.proofs.comparing.compare_rest.Given as goal
 
 -- so many records were compared
-abbrev pub invariant-loop-alloc : goal.invariant-loop-alloc
-invariant-loop-alloc g l = record {
+abbrev pub invariant-loop-station : goal.invariant-loop-station
+invariant-loop-station g l = record {
   going : l.own.ended ≡ false;
   version : l.own.version ≡ l.fn.own.version;
   stands : g.P.Station.observed → StandsOn (g.P.Station.calls l.station) l.own;
@@ -24,5 +24,5 @@ invariant-loop-alloc g l = record {
   source_sound : g.S.Source.faults l.source ≡ g.S.Source.faults l.fn.source;
 }
 
-abbrev pub decreases-loop-alloc : goal.decreases-loop-alloc
-decreases-loop-alloc g l = l.end - l.own.gate
+abbrev pub decreases-loop-station : goal.decreases-loop-station
+decreases-loop-station g l = l.end - l.own.gate

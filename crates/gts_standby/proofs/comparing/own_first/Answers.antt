@@ -3,8 +3,7 @@ use Rattle.gts_standby.specs.Cited.{IsDamage, Version, bytes_from, compacted_byt
 use Rattle.gts_checkpoint.specs.Reading.{HasRead}
 use Rattle.gts_standby.proofs.ExitLemmas.{returned}
 use Rattle.gts_standby.proofs.FirstLemmas.{no_damage}
-use Rattle.gts_standby.proofs.CompareLemmas.{device_read, device_passed, own_opening, first_leads, behind_first, behind_one}
-use Rattle.gts_standby.proofs.NamedLemmas.{named_open}
+use Rattle.gts_standby.proofs.CompareLemmas.{device_read, device_passed, first_leads, behind_first, behind_one}
 use Rattle.gts_standby.proofs.comparing.own_first.Goals as goal
 
 pub returns-then-not-at_checkpoint-clause-on : goal.returns-then-not-at_checkpoint-clause-on
@@ -25,12 +24,6 @@ returns-in_err-pass_next-clause-on g c = λ observed end first low.
     let plain : is_at_checkpoint j ≡ false = search rules in
     rw (returned c.from_residual.result (open_end e) c.from_residual.ensures.1)
     (device_passed d old j c.pass_next.new.journal end _ e (first_leads d old j end first plain) (omega (arith, c.requires.begins, low)) (c.in_err-pass_next.ensures.passed observed))
-
-pub returns-in_err-pass_next-clause-kind : goal.returns-in_err-pass_next-clause-kind
-returns-in_err-pass_next-clause-kind g c = rw (returned c.from_residual.result (open_end c.in_err-pass_next.field-0.0) c.from_residual.ensures.1) (own_opening c.in_err-pass_next.field-0.0)
-
-pub returns-in_err-pass_next-clause-named : goal.returns-in_err-pass_next-clause-named
-returns-in_err-pass_next-clause-named g c = rw (returned c.from_residual.result (open_end c.in_err-pass_next.field-0.0) c.from_residual.ensures.1) (named_open c.in_err-pass_next.field-0.0)
 
 pub returns-clause-on : goal.returns-clause-on
 returns-clause-on g c = λ observed end first low.
@@ -56,6 +49,3 @@ returns-in_err-found-clause-on g c = λ observed end first low.
     let E : Version → Type 0 = λ v. IsDamage v d j.file (bytes_from old j.file 41) c.in_err-found.field-0.0 in
     let damage = subst E c.version.ensures (subst D c.file-file.ensures.file (c.in_err-found.ensures.fault observed)) in
     rw (returned c.from_residual-in_err-found.result (open_end c.in_err-found.field-0.0) c.from_residual-in_err-found.ensures.1) (device_read j.version d j.file (drop 41 (file_of old j)) c.in_err-found.field-0.0 damage (no_damage d old j end first packed))
-
-pub returns-in_err-found-clause-named : goal.returns-in_err-found-clause-named
-returns-in_err-found-clause-named g c = rw (returned c.from_residual-in_err-found.result (open_end c.in_err-found.field-0.0) c.from_residual-in_err-found.ensures.1) (named_open c.in_err-found.field-0.0)

@@ -1,6 +1,6 @@
 use Rattle.std.proofs.Common.{◌≡◌, Some, None, sym, ap, ◌∙◌}
 use Rattle.gts_standby.specs.Cited.{held, record_of, sealed_at}
-use Rattle.gts_standby.proofs.FedLemmas.{found_piece, no_piece, found_fits_there, looked_no_fault, at_end}
+use Rattle.gts_standby.proofs.FedLemmas.{found_piece, no_piece, found_fits_there}
 use Rattle.gts_standby.proofs.fed.fed_record.Goals as goal
 
 pub returns-in-Some-clause-piece : goal.returns-in-Some-clause-piece
@@ -24,11 +24,4 @@ returns-in-None-clause-piece g c = λ observed fed read next.
     let before = held v c.args.before.now in
     let now = c.in_ok-fill.ensures.kept observed fed read in
     let none : sealed_at v before c.fill.new.self.bytes ≡ None = ap (sealed_at v before) (sym c.bytes.ensures) ∙ sym c.in-None.ensures.found in
-    no_piece c.end_at.result v before fed (g.S.Source.left c.fill.new.source) c.fill.new.self c.args.at now c.in_ok-fill.ensures.enough none c.end_at.ensures.end (at_end c.end_at.result c.end_at.ensures.kind) next
-
-pub returns-in-None-clause-cause : goal.returns-in-None-clause-cause
-returns-in-None-clause-cause g c = record {
-  later = c.fill.ensures.cause.later;
-  failed = λ e. looked_no_fault c.end_at.result c.end_at.ensures.kind _ e;
-  sound = λ _. c.in_ok-fill.ensures.cause.sound tt;
-}
+    no_piece c.end_at.result v before fed (g.S.Source.left c.fill.new.source) c.fill.new.self c.args.at now c.in_ok-fill.ensures.enough none c.end_at.ensures next

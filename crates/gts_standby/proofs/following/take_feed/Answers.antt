@@ -1,9 +1,10 @@
 use Rattle.std.proofs.Common.{refl, drop, sym, subst}
-use Rattle.gts_standby.specs.Cited.{Ends, FollowEnd, HasRead, InFeed, IsEnd, IsNamedEnd, ReadsAll, stopped}
+use Rattle.gts_standby.specs.Cited.{Ends, FollowEnd, HasRead, InFeed, ReadsAll, stopped}
 use Rattle.gts_standby.proofs.AddLemmas.{holds_of}
 use Rattle.gts_standby.proofs.TakeLemmas.{all_unread, behind_taken, header_taken, answers_there, added_there, reads_after_there, kept_there, moments_there, done_stops, open_alone, open_no_end, taken_alone, fed_alone, opened_there}
-use Rattle.gts_standby.proofs.NamedLemmas.{named_open, named_fed}
 use Rattle.gts_standby.proofs.following.take_feed.Goals as goal
+use Rattle.std.proofs.lemmas.Grind.{common_steps}
+use Rattle.std.proofs.Common.{arith}
 
 pub returns-in-Ok-take_header-clause-answer : goal.returns-in-Ok-take_header-clause-answer
 returns-in-Ok-take_header-clause-answer g c = λ observed told.
@@ -94,12 +95,6 @@ returns-in-Ok-take_header-clause-done g c = λ told is.
     let header = c.in-Ok-take_header.ensures.taken told fed read in
     subst (λ (e : FollowEnd). ReadsAll e (g.S.Source.left c.take_records.new.source)) is (c.take_records.ensures.whole told header.1.all)
 
-pub returns-in-Err-clause-named : goal.returns-in-Err-clause-named
-returns-in-Err-clause-named g c = subst IsNamedEnd (sym c.from.ensures) (named_open c.in-Err.fault)
-
-pub returns-in-Err-take_header-clause-named : goal.returns-in-Err-take_header-clause-named
-returns-in-Err-take_header-clause-named g c = named_fed c.in-Err-take_header.end c.in-Err-take_header.ensures.kind
-
 pub returns-in-Err-clause-refused : goal.returns-in-Err-clause-refused
 returns-in-Err-clause-refused g c = λ observed told. rw c.from.ensures (open_alone c.in-Err.fault _ _ _ (c.open_core.ensures.told observed) refl)
 
@@ -119,23 +114,13 @@ returns-in-Err-take_header-clause-refused g c = λ observed told. fed_alone c.in
 
 -- where it opens, it doesn't open to a fault
 pub returns-in-Ok-take_header-clause-unopened : goal.returns-in-Ok-take_header-clause-unopened
-returns-in-Ok-take_header-clause-unopened g c = λ observed fault is.
-    let o = c.in-Ok.ensures.opened in
-    opened_there c.args.directory.now _ _ c.in-Ok.opened.1 o.state fault _ (c.in-Ok.ensures.synced observed) (o.stands observed) is
+returns-in-Ok-take_header-clause-unopened g c = grind (arith, common_steps, opened_there)
 
 pub returns-in-Err-take_header-clause-unopened : goal.returns-in-Err-take_header-clause-unopened
-returns-in-Err-take_header-clause-unopened g c = λ observed fault is.
-    let o = c.in-Ok.ensures.opened in
-    opened_there c.args.directory.now _ _ c.in-Ok.opened.1 o.state fault _ (c.in-Ok.ensures.synced observed) (o.stands observed) is
+returns-in-Err-take_header-clause-unopened g c = grind (arith, common_steps, opened_there)
 
 pub returns-in-Err-clause-unopened : goal.returns-in-Err-clause-unopened
 returns-in-Err-clause-unopened g c = λ observed fault is. (c.open_core.ensures.told observed, refl)
 
 pub returns-in-Err-clause-added : goal.returns-in-Err-clause-added
-returns-in-Err-clause-added g c = λ observed told.
-    let none : IsEnd c.from.result → ⊥ = λ e. open_no_end c.in-Err.fault (subst IsEnd c.from.ensures e) in
-    record {
-      opened = λ s used last taken reads comes e. absurd (none e);
-      reads = λ read taken reads comes e. absurd (none e);
-      kept = λ read taken reads comes e. absurd (none e);
-    }
+returns-in-Err-clause-added g c = grind (arith, common_steps, open_no_end)

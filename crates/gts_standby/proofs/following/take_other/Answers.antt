@@ -1,6 +1,5 @@
 use Rattle.std.proofs.Common.{inl, inr, refl, sym, ◌∙◌}
 use Rattle.gts_standby.proofs.TakeLemmas.{unread_taken, anew_taken, behind_taken_over}
-use Rattle.gts_standby.proofs.NamedLemmas.{named_added, named_read, named_other}
 use Rattle.gts_standby.proofs.WholeLemmas.{whole_read, read_all}
 use Rattle.gts_standby.proofs.OtherLemmas.{other_all}
 use Rattle.gts_standby.proofs.following.take_other.Goals as goal
@@ -30,12 +29,3 @@ returns-in-Ok-false-clause-whole g c = λ told w. other_all c.args.compared _ c.
 
 pub returns-in-Err-clause-whole : goal.returns-in-Err-clause-whole
 returns-in-Err-clause-whole g c = λ told w. read_all c.in-Err.end _ c.in-Err.ensures.kind
-
-pub returns-in-Ok-true-clause-named : goal.returns-in-Ok-true-clause-named
-returns-in-Ok-true-clause-named g c = named_added c.take_checkpoint.result c.take_checkpoint.ensures.kind
-
-pub returns-in-Ok-false-clause-named : goal.returns-in-Ok-false-clause-named
-returns-in-Ok-false-clause-named g c = named_other c.args.compared c.requires.other
-
-pub returns-in-Err-clause-named : goal.returns-in-Err-clause-named
-returns-in-Err-clause-named g c = named_read c.in-Err.end c.in-Err.ensures.kind

@@ -1,7 +1,6 @@
 use Rattle.std.proofs.Common.{rules, ◌≡◌, ℕ, true, false, ◌≤◌, ◌<◌, ◌-◌, length, sym, subst, ◌∙◌, arith}
 use Rattle.gts_standby.proofs.AddLemmas.{gate_so}
 use Rattle.gts_standby.proofs.TakeLemmas.{opened_kept, holds_kept, first_there, first_taken, ends_compared, goes_compared, other_compared}
-use Rattle.gts_standby.proofs.NamedLemmas.{named_added}
 use Rattle.gts_standby.proofs.WholeLemmas.{whole_read}
 use Rattle.gts_standby.specs.Cited.{Rose, is_other}
 use Rattle.gts_standby.proofs.OtherLemmas.{other_end}
@@ -73,12 +72,6 @@ pub returns-else-not-is_other-clause-whole : goal.returns-else-not-is_other-clau
 returns-else-not-is_other-clause-whole g c = λ told w.
     let other : is_other c.in-Err.end ≡ true = search rules in
     c.take_other.ensures.whole told (c.in-Err.ensures.kept told _ (whole_read c.args.ahead.now _ w) other).all
-
-pub returns-then-end-clause-named : goal.returns-then-end-clause-named
-returns-then-end-clause-named g c = named_added c.take_first.result c.take_first.ensures.kind
-
-pub returns-in-Ok-clause-named : goal.returns-in-Ok-clause-named
-returns-in-Ok-clause-named g c = named_added c.add_all.result c.add_all.ensures.kind
 
 pub returns-else-not-is_other-clause-counts : goal.returns-else-not-is_other-clause-counts
 returns-else-not-is_other-clause-counts g c =

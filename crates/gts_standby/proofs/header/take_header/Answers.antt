@@ -3,10 +3,10 @@ use Rattle.gts_record.specs.Format.{magic, written}
 use Rattle.gts_opening.specs.Journal as opened
 use Rattle.gts_standby.proofs.HeaderLemmas.{agreeing-low, whole_header, cut_header, other_header}
 use Rattle.gts_standby.proofs.header.take_header.Goals as goal
+use Rattle.std.proofs.lemmas.Grind.{common_steps}
 
 pub pass-requires : goal.pass-requires
-pass-requires g c =
-    omega (arith, c.agreeing-same.ensures.value, c.if-same-eq-HEADER.true, agreeing-low c.header_of.result c.bytes-bytes.result.now, ap (λ (l : List ℕ). length l) c.bytes-bytes.ensures)
+pass-requires g c = grind (arith, common_steps, agreeing-low)
 
 pub returns-then-same-eq-HEADER-clause-taken : goal.returns-then-same-eq-HEADER-clause-taken
 returns-then-same-eq-HEADER-clause-taken g c = λ observed fed read.

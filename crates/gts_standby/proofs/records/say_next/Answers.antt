@@ -4,7 +4,7 @@ use Rattle.gts_record.specs.declared.value.Record.{Record}
 use Rattle.gts_standby.proofs.ExitLemmas.{returned}
 use Rattle.gts_standby.proofs.SayLemmas.{fronts_none}
 use Rattle.gts_standby.proofs.FeedLemmas.{record_stands}
-use Rattle.gts_standby.proofs.ShipLemmas.{quiet_passed, named_opening, said_one}
+use Rattle.gts_standby.proofs.ShipLemmas.{quiet_passed, said_one}
 use Rattle.gts_standby.proofs.records.say_next.Goals as goal
 
 pub returns-in_err-pass_next-clause-said : goal.returns-in_err-pass_next-clause-said
@@ -49,6 +49,3 @@ returns-clause-said g c = λ observed d end left at low.
     let by_end = subst (λ (k : ℕ). Speaks c.say_part.result old new (take (k - (c.used-gate.result + 1)) (drop (c.used-gate.result + 1) (file_of old j)))) place by_file in
     let by_start = subst (λ (k : ℕ). Speaks c.say_part.result old new (take (next.gate - (k + 1)) (drop (k + 1) (file_of old j)))) from by_end in
     said_one c.say_part.result d old new j next r end left at entry gone by_start (c.say_part.ensures.kind observed)
-
-pub returns-in_err-pass_next-clause-named : goal.returns-in_err-pass_next-clause-named
-returns-in_err-pass_next-clause-named g c = rw (returned c.from_residual.result (ship_fault c.in_err-pass_next.field-0.0) c.from_residual.ensures.1) (named_opening c.in_err-pass_next.field-0.0)

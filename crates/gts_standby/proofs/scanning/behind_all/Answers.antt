@@ -3,6 +3,7 @@ use Rattle.gts_standby.specs.Taking as feeds
 use Rattle.gts_standby.specs.Reading.{behind_listed}
 use Rattle.gts_standby.proofs.ScanLemmas.{all_on, all_end, all_done, reaches_err}
 use Rattle.gts_standby.proofs.scanning.behind_all.Goals as goal
+use Rattle.std.proofs.lemmas.Grind.{common_steps}
 
 pub loop-left-preserved : goal.loop-left-preserved
 loop-left-preserved g c =
@@ -28,6 +29,4 @@ returns-in_err-at-clause-reached g c = λ observed fed read.
     (all_end end one c.loop-left.left c.loop-left.at fed _ _ (omega (arith, c.loop-left-test.true)) (c.in_err-at.ensures.reached observed fed (inv.gone observed fed read)))
 
 pub returns-clause-reached : goal.returns-clause-reached
-returns-clause-reached g c = λ observed fed read.
-    let inv = c.loop-left.invariant in
-    (inv.same observed fed read ∙ all_done (behind_listed c.args.listed c.args.limit fed) c.loop-left.left c.loop-left.at (omega (arith, c.loop-left-test.false)), inv.gone observed fed read)
+returns-clause-reached g c = grind (arith, common_steps, all_done)

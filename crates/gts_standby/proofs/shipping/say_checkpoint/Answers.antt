@@ -1,19 +1,15 @@
-use Rattle.std.proofs.Common.{rules, ◌≡◌, ◌+◌, ◌-◌, ℕ, true, false, List, length, take, drop, sym, ap, subst, ◌∙◌, arith}
+use Rattle.std.proofs.Common.{rules, ◌≡◌, ◌+◌, ◌-◌, ℕ, true, List, length, take, drop, sym, ap, subst, ◌∙◌, arith}
 use Rattle.gts_standby.specs.Cited.{Call, IsDamage, SaysFront, SaysHere, Version, behind_header, bytes_from, compacted_bytes, file_of, held, is_at_checkpoint, need_of, on, seen, ship_fault}
 use Rattle.gts_checkpoint.specs.Reading.{HasRead}
 use Rattle.gts_standby.proofs.ExitLemmas.{returned}
 use Rattle.gts_standby.proofs.SayLemmas.{fronts_none}
-use Rattle.gts_standby.proofs.ShipLemmas.{named_opening, nothing_yet}
+use Rattle.gts_standby.proofs.ShipLemmas.{nothing_yet}
 use Rattle.gts_standby.proofs.FirstLemmas.{plain_first, checkpoint_stands, no_damage, quiet_read, said_checkpoint, broken_checkpoint}
 use Rattle.gts_standby.proofs.shipping.say_checkpoint.Goals as goal
+use Rattle.std.proofs.lemmas.Grind.{common_steps}
 
 pub returns-then-not-at_checkpoint-clause-said : goal.returns-then-not-at_checkpoint-clause-said
-returns-then-not-at_checkpoint-clause-said g c = λ observed.
-    let d = c.args.directory.now in
-    let old = g.P.Station.calls c.args.station.now in
-    let j = c.args.journal.now in
-    let plain : is_at_checkpoint j ≡ false = search rules in
-    nothing_yet d old j c.args.end (behind_header d old j) (plain_first d old j c.args.end (c.requires.first observed) plain)
+returns-then-not-at_checkpoint-clause-said g c = grind (arith, common_steps, nothing_yet, plain_first)
 
 pub say_part-requires-clause-there : goal.say_part-requires-clause-there
 say_part-requires-clause-there g c = λ observed.
@@ -81,6 +77,3 @@ returns-in_err-found-clause-said g c = λ observed.
       quiet,
       subst (λ (calls : List Call). SaysFront old calls (on 0 (behind_header d old j))) (sym (c.in_err-found.ensures.looks.told observed)) (fronts_none old (behind_header d old j)),
     )
-
-pub returns-in_err-found-clause-named : goal.returns-in_err-found-clause-named
-returns-in_err-found-clause-named g c = rw (returned c.from_residual.result (ship_fault c.in_err-found.field-0.0) c.from_residual.ensures.1) (named_opening c.in_err-found.field-0.0)

@@ -3,11 +3,11 @@ use Rattle.gts_standby.specs.Cited.{SaysHere, seen}
 use Rattle.gts_standby.proofs.ExitLemmas.{returned}
 use Rattle.gts_standby.proofs.FirstLemmas.{first_later, said_feed, broken_feed}
 use Rattle.gts_standby.proofs.shipping.say_feed.Goals as goal
+use Rattle.std.proofs.lemmas.Grind.{common_steps}
+use Rattle.std.proofs.Common.{arith}
 
 pub say_checkpoint-requires-clause-first : goal.say_checkpoint-requires-clause-first
-say_checkpoint-requires-clause-first g c = λ observed.
-    let header = c.in_ok-say_part.ensures.told observed in
-    first_later c.args.directory.now (g.P.Station.calls c.args.station.now) (g.P.Station.calls c.say_part.new.station) c.args.journal c.args.end (header.only.files c.args.journal.file) (c.requires.first observed)
+say_checkpoint-requires-clause-first g c = grind (arith, common_steps, first_later)
 
 pub returns-clause-said : goal.returns-clause-said
 returns-clause-said g c = λ observed.

@@ -1,11 +1,9 @@
 use Rattle.std.proofs.Common.{rules, ◌≡◌, ◌+◌, ℕ, true, false, drop, refl, ap, subst, ◌∙◌}
 use Rattle.gts_standby.specs.Cited.{IsDamage, Version, bytes_from, compacted_bytes, file_of, held, is_at_checkpoint, need_of, ship_fault}
 use Rattle.gts_checkpoint.specs.Reading.{HasRead}
-use Rattle.gts_standby.specs.declared.fault.ShipFault.TheVariants as fault
 use Rattle.gts_standby.proofs.ExitLemmas.{returned}
-use Rattle.gts_standby.proofs.ShipLemmas.{named_opening}
 use Rattle.gts_standby.proofs.FirstLemmas.{no_damage, quiet_read}
-use Rattle.gts_standby.proofs.SinceLemmas.{before_plain, before_packed, no_say}
+use Rattle.gts_standby.proofs.SinceLemmas.{before_plain, before_packed}
 use Rattle.gts_standby.proofs.since.pass_checkpoint.Goals as goal
 
 pub returns-then-not-at_checkpoint-clause-passed : goal.returns-then-not-at_checkpoint-clause-passed
@@ -39,9 +37,3 @@ returns-in_err-found-clause-passed g c = λ observed end place last first.
     let damage = subst E c.version.ensures (subst D c.file-file.ensures.file (c.in_err-found.ensures.fault observed)) in
     rw (returned c.from_residual.result (ship_fault c.in_err-found.field-0.0) c.from_residual.ensures.1)
     (quiet_read j.version d j.file (drop 41 (file_of old j)) c.in_err-found.field-0.0 damage (no_damage d old j end first packed))
-
-pub returns-in_err-found-clause-named : goal.returns-in_err-found-clause-named
-returns-in_err-found-clause-named g c = rw (returned c.from_residual.result (ship_fault c.in_err-found.field-0.0) c.from_residual.ensures.1) (named_opening c.in_err-found.field-0.0)
-
-pub returns-in_err-found-clause-say_fault : goal.returns-in_err-found-clause-say_fault
-returns-in_err-found-clause-say_fault g c = rw (returned c.from_residual.result (ship_fault c.in_err-found.field-0.0) c.from_residual.ensures.1) (λ is. no_say c.in_err-found.field-0.0 (let e : ship_fault c.in_err-found.field-0.0 ≡ fault.SayFault = cc is in e))

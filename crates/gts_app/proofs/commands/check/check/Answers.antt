@@ -1,13 +1,11 @@
 use Rattle.std.proofs.Common.{ℕ, List, ◌++◌, Err, refl, sym, ap, subst, ◌∙◌}
 use Rattle.gts_app.specs.Cited.{OpenFault, TakesOver, changes, need}
 use Rattle.gts_app.proofs.TryingLemmas.{new_unread, old_unread, not_opened, reported, not_said}
-use Rattle.gts_app.proofs.SoundLemmas.{unread, old_unread as old_unread_fails, refusal_fails}
+use Rattle.gts_app.proofs.SoundLemmas.{refusal_fails}
 use Rattle.gts_app.proofs.commands.check.check.Goals as goal
 
 pub returns-in-Err-clause-tries : goal.returns-in-Err-clause-tries
-returns-in-Err-clause-tries g c =
-    new_unread g.S.Source g.P.Station c.in-Err.status c.args.world.now.directory c.directory_file_of.new.source c.args.world.now.capture c.args.world.now.station
-    c.in-Err.ensures
+returns-in-Err-clause-tries g c = new_unread _ _ c.in-Err.status _ _ _ _ c.in-Err.ensures
 
 pub returns-in-Err-old_directory_file_of-clause-tries : goal.returns-in-Err-old_directory_file_of-clause-tries
 returns-in-Err-old_directory_file_of-clause-tries g c =
@@ -49,19 +47,5 @@ returns-clause-tries g c =
     (x.0, x.1, x.2, c.bytes.ensures ∙ x.3 ∙ ap (λ (text : List ℕ). text ++ changes d o (need o x.0)) c.new-text.ensures))
     e.synced e.cause.later e.cause.say s.cause.later s.disk s.told
 
-pub returns-in-Err-clause-sound : goal.returns-in-Err-clause-sound
-returns-in-Err-clause-sound g c = λ is. absurd (unread c.in-Err.ensures is)
-
-pub returns-in-Err-old_directory_file_of-clause-sound : goal.returns-in-Err-old_directory_file_of-clause-sound
-returns-in-Err-old_directory_file_of-clause-sound g c = λ is. absurd (old_unread_fails c.in-Err-old_directory_file_of.ensures is)
-
 pub returns-in-Err-changes-clause-sound : goal.returns-in-Err-changes-clause-sound
 returns-in-Err-changes-clause-sound g c = λ is. absurd (refusal_fails c.in-Err-changes.fault (sym c.refusal.ensures ∙ is))
-
-pub returns-clause-sound : goal.returns-clause-sound
-returns-clause-sound g c = λ is. record {
-  directory = c.in-Ok.ensures.cause.sound;
-  capture = c.in-Ok-old_directory_file_of.ensures.cause.sound;
-  disk = c.in-Ok-say.ensures.disk ∙ c.in_default-changes.ensures.cause.sound;
-  say = c.in-Ok-say.ensures.cause.sound ∙ c.in_default-changes.ensures.cause.say;
-}

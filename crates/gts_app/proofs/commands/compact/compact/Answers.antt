@@ -1,8 +1,10 @@
-use Rattle.std.proofs.Common.{sym, subst, refl, ap, ◌∙◌}
+use Rattle.std.proofs.Common.{sym, subst}
 use Rattle.gts_app.specs.Cited.{Compacts, Status}
 use Rattle.gts_app.proofs.CompactLemmas.{not_compacted, compacts}
 use Rattle.gts_app.proofs.SoundLemmas.{unopened, compacted, none_of}
 use Rattle.gts_app.proofs.commands.compact.compact.Goals as goal
+use Rattle.std.proofs.lemmas.Grind.{common_steps}
+use Rattle.std.proofs.Common.{arith}
 
 pub returns-in-Err-clause-compacts : goal.returns-in-Err-clause-compacts
 returns-in-Err-clause-compacts g c = not_compacted _ _ c.in-Err.field-0.status _ _ _ c.in-Err.field-0.station c.in-Err.ensures
@@ -22,13 +24,4 @@ pub returns-in-Err-clause-sound : goal.returns-in-Err-clause-sound
 returns-in-Err-clause-sound g c = λ is. absurd (unopened c.in-Err.ensures is)
 
 pub returns-clause-sound : goal.returns-clause-sound
-returns-clause-sound g c = λ is.
-    let opened = c.in-Ok.ensures.kept c.in-Ok.engine refl in
-    let m = c.compact-compacted in
-    let done = compacted m.result (sym c.status_of-status.ensures ∙ is) in
-    record {
-      directory = opened.2;
-      capture = refl;
-      disk = ap g.P.Station.disk_faults c.into_parts-station.ensures.station ∙ m.ensures.cause.disk_still (none_of m.result done _) ∙ opened.0;
-      say = ap g.P.Station.say_faults c.into_parts-station.ensures.station ∙ m.ensures.cause.say_still (none_of m.result done _) ∙ opened.1;
-    }
+returns-clause-sound g c = grind (arith, common_steps, compacted, none_of)

@@ -2,7 +2,7 @@ use Rattle.std.proofs.Common.{◌≡◌, ◌≤◌, length, Ok, sym, ap, subst, 
 use Rattle.gts_app.specs.Cited.{Counted, CountsTraffic, Engine, IsUnfailed, Opens, ShowsTable, Status, switch_meanings, world}
 use Rattle.gts_app.proofs.EndLemmas.{Leaves}
 use Rattle.gts_app.proofs.TrafficLemmas.{not_counted, without_numbers, ended, said_so}
-use Rattle.gts_app.proofs.SoundLemmas.{unopened, no_table, said, on_ok}
+use Rattle.gts_app.proofs.SoundLemmas.{unopened, said, on_ok}
 use Rattle.gts_app.proofs.commands.count.count.Goals as goal
 
 pub returns-in-Err-clause-counts : goal.returns-in-Err-clause-counts
@@ -55,9 +55,6 @@ returns-clause-counts g c =
 
 pub returns-in-Err-clause-sound : goal.returns-in-Err-clause-sound
 returns-in-Err-clause-sound g c = λ is. absurd (unopened c.in-Err.ensures is)
-
-pub returns-in-Err-table-clause-sound : goal.returns-in-Err-table-clause-sound
-returns-in-Err-table-clause-sound g c = λ is. absurd (no_table c.replay-end.result c.in-Err-table.status c.in-Err-table.ensures.none is)
 
 pub returns-clause-sound : goal.returns-clause-sound
 returns-clause-sound g c = λ is.

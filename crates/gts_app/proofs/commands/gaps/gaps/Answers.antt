@@ -1,14 +1,10 @@
-use Rattle.std.proofs.Common.{sym, subst, ◌∙◌}
+use Rattle.std.proofs.Common.{sym, subst}
 use Rattle.gts_app.specs.Cited.{NamesGaps, Status, world}
 use Rattle.gts_app.proofs.StreamLemmas.{gaps_unread, gaps_ends}
-use Rattle.gts_gap.specs.Ending.{IsUnfailed}
-use Rattle.gts_app.proofs.SoundLemmas.{unread, named}
 use Rattle.gts_app.proofs.commands.gaps.gaps.Goals as goal
 
 pub returns-in-Err-clause-names : goal.returns-in-Err-clause-names
-returns-in-Err-clause-names g c =
-    gaps_unread g.S.Source g.P.Station c.args.moment c.in-Err.status c.args.world.now.directory c.directory_of.new.source c.args.world.now.capture c.args.world.now.station
-    c.in-Err.ensures
+returns-in-Err-clause-names g c = gaps_unread _ _ _ c.in-Err.status _ _ _ _ c.in-Err.ensures
 
 pub returns-clause-names : goal.returns-clause-names
 returns-clause-names g c =
@@ -17,18 +13,3 @@ returns-clause-names g c =
     let e = c.gaps.ensures in
     subst (λ (s : Status). NamesGaps g.S.Source g.P.Station c.args.moment s (world od c.args.world.now.capture c.args.world.now.station) (world nd c.gaps.new.capture c.gaps.new.station)) (sym c.status_of.ensures)
     (gaps_ends g.S.Source g.P.Station c.args.moment c.in-Ok.directory c.gaps.result od nd c.args.world.now.capture c.gaps.new.capture c.args.world.now.station c.gaps.new.station c.in-Ok.ensures e.names e.cause e.disk)
-
-pub returns-in-Err-clause-sound : goal.returns-in-Err-clause-sound
-returns-in-Err-clause-sound g c = λ is. absurd (unread c.in-Err.ensures is)
-
-pub returns-clause-sound : goal.returns-clause-sound
-returns-clause-sound g c = λ is.
-    let done = named c.gaps.result (sym c.status_of.ensures ∙ is) in
-    let e = c.gaps.ensures in
-    let still = e.cause.sound (subst IsUnfailed (sym done) tt) in
-    record {
-      directory = c.in-Ok.ensures.cause.sound;
-      capture = still.0;
-      disk = e.disk;
-      say = still.1;
-    }

@@ -1,12 +1,9 @@
-use Rattle.std.proofs.Common.{refl, sym, ◌∙◌}
+use Rattle.std.proofs.Common.{refl}
 use Rattle.gts_app.proofs.MigrateLemmas.{new_unread, old_unread, taken_over}
-use Rattle.gts_app.proofs.SoundLemmas.{unread, old_unread as old_unread_fails, migrated, on_ok, says_nothing}
 use Rattle.gts_app.proofs.commands.migrate.migrate.Goals as goal
 
 pub returns-in-Err-clause-migrates : goal.returns-in-Err-clause-migrates
-returns-in-Err-clause-migrates g c =
-    new_unread c.args.waiting g.S.Source g.P.Station c.in-Err.status c.args.world.directory c.directory_of.new.source c.args.world.capture c.args.world.station
-    c.in-Err.ensures
+returns-in-Err-clause-migrates g c = new_unread _ _ _ c.in-Err.status _ _ _ _ c.in-Err.ensures
 
 pub returns-in-Err-old_directory_of-clause-migrates : goal.returns-in-Err-old_directory_of-clause-migrates
 returns-in-Err-old_directory_of-clause-migrates g c =
@@ -32,20 +29,3 @@ returns-in-Ok-takes_over-clause-migrates g c =
       says = m.ensures.counts.say;
       unsaid = m.ensures.unsaid;
     }) m.ensures.silent m.ensures.counts.later
-
-pub returns-in-Err-clause-sound : goal.returns-in-Err-clause-sound
-returns-in-Err-clause-sound g c = λ is. absurd (unread c.in-Err.ensures is)
-
-pub returns-in-Err-old_directory_of-clause-sound : goal.returns-in-Err-old_directory_of-clause-sound
-returns-in-Err-old_directory_of-clause-sound g c = λ is. absurd (old_unread_fails c.in-Err-old_directory_of.ensures is)
-
-pub returns-in-Ok-takes_over-clause-sound : goal.returns-in-Ok-takes_over-clause-sound
-returns-in-Ok-takes_over-clause-sound g c = λ is.
-    let m = c.migrate-station in
-    let done = migrated m.result.1 (sym c.status_of-status.ensures ∙ is) in
-    record {
-      directory = c.in-Ok.ensures.cause.sound;
-      capture = c.in-Ok-old_directory_of.ensures.cause.sound;
-      disk = on_ok m.result.1 done m.ensures.counts.sound;
-      say = says_nothing m.result.1 done m.ensures.counts.say;
-    }

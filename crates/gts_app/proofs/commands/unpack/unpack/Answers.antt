@@ -1,22 +1,12 @@
 use Rattle.std.proofs.Common.{◌≡◌, ◌<◌, ◌≤◌, Ok, length, refl, sym, ap, subst, arith, ◌∙◌}
 use Rattle.gts_directory.specs.Directory as directories
 use Rattle.gts_app.specs.Cited.{IsUnfailedFile, directory_of_bytes}
-use Rattle.gts_app.proofs.UnpackLemmas.{unpacks, unaccepted, unopened, no-circuit, done-is}
-use Rattle.gts_app.proofs.SoundLemmas.{unread, unopened as unopened_fails}
+use Rattle.gts_app.proofs.UnpackLemmas.{unpacks, unaccepted, unopened, done-is}
+use Rattle.gts_app.proofs.SoundLemmas.{unopened as unopened_fails}
 use Rattle.gts_app.proofs.commands.unpack.unpack.Goals as goal
 
 pub returns-in-Err-clause-unpacks : goal.returns-in-Err-clause-unpacks
-returns-in-Err-clause-unpacks g c =
-    let od = c.args.world.directory in
-    let nd = c.directory_of.new.source in
-    unaccepted g.S.Source g.P.Station c.args.c c.in-Err.status od nd c.args.world.capture c.args.world.station c.in-Err.ensures
-
-pub returns-then-circuits-c-clause-unpacks : goal.returns-then-circuits-c-clause-unpacks
-returns-then-circuits-c-clause-unpacks g c =
-    let od = c.args.world.directory in
-    let nd = c.directory_of.new.source in
-    no-circuit g.S.Source g.P.Station c.args.c c.in-Ok.directory od nd c.args.world.capture c.args.world.station
-    c.in-Ok.ensures (omega (arith, c.circuits.ensures.value, c.if-circuits-c.true))
+returns-in-Err-clause-unpacks g c = unaccepted _ _ _ c.in-Err.status _ _ _ _ c.in-Err.ensures
 
 pub returns-in-Err-open_journal-clause-unpacks : goal.returns-in-Err-open_journal-clause-unpacks
 returns-in-Err-open_journal-clause-unpacks g c =
@@ -45,9 +35,6 @@ returns-clause-unpacks g c =
     (λ observed. subst (λ (x : directories.Directory). directory_of_bytes (g.S.Source.left od) ≡ Ok x) (sym same) (c.in-Ok.ensures.read observed d refl))
     c.unpack-end.ensures.cause c.used-used.ensures.files
     )
-
-pub returns-in-Err-clause-sound : goal.returns-in-Err-clause-sound
-returns-in-Err-clause-sound g c = λ is. absurd (unread c.in-Err.ensures is)
 
 pub returns-in-Err-open_journal-clause-sound : goal.returns-in-Err-open_journal-clause-sound
 returns-in-Err-open_journal-clause-sound g c = λ is.

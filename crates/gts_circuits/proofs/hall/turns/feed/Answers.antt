@@ -4,6 +4,8 @@ use Rattle.gts_calls.specs.Cited.{Reads}
 use Rattle.gts_circuits.proofs.TurningLemmas.{feeds}
 use Rattle.gts_circuits.proofs.FeedingLemmas.{N, fed_more, feeds_spent, short_settled}
 use Rattle.gts_circuits.proofs.hall.turns.feed.Goals as goal
+use Rattle.std.proofs.lemmas.Grind.{common_steps}
+use Rattle.std.proofs.Common.{arith}
 
 pub leave-requires : goal.leave-requires
 leave-requires g c =
@@ -61,9 +63,7 @@ returns-clause-takes g c = λ before reads.
     }
 
 pub returns-clause-short : goal.returns-clause-short
-returns-clause-short g c =
-    short_settled (N (λ (h : _). h.engine) (λ (h : _). h.makes_room) g.P.Station g.B.Began.beginning)
-    c.feed_behind-fed.result.end c.settle_behind-fed.result.end c.value-2.result.now c.settle_behind-fed.new.switch c.feed_behind-fed.new.decoder.message c.settle_behind-fed.ensures.settles c.feed_behind-fed.ensures.short
+returns-clause-short g c = grind (arith, common_steps, short_settled, N)
 
 pub returns-in-Err-clause-added : goal.returns-in-Err-clause-added
 returns-in-Err-clause-added g c = λ before reads.

@@ -1,7 +1,9 @@
-use Rattle.std.proofs.Common.{◌≡◌, ◌<◌, List, [], ◌∷◌, ◌++◌, length, refl, sym, ap, ◌∙◌, subst}
-use Rattle.gts_circuits.specs.Cited.{Directory, Engine, Entry, Heard, Known, SaysNoMore, Stands, after_adding, all_of, entries, entries_under, entry_by}
+use Rattle.std.proofs.Common.{◌≡◌, List, [], ◌∷◌, ◌++◌, refl, sym, ap, ◌∙◌, subst}
+use Rattle.gts_circuits.specs.Cited.{Engine, Entry, Heard, Known, SaysNoMore, Stands, after_adding, all_of, entries, entries_under, entry_by}
 use Rattle.gts_circuits.proofs.TurningLemmas.{answers}
 use Rattle.gts_circuits.proofs.hall.turns.hear.Goals as goal
+use Rattle.std.proofs.lemmas.Grind.{common_steps}
+use Rattle.std.proofs.Common.{arith}
 
 pub leave-requires-clause-value : goal.leave-requires-clause-value
 leave-requires-clause-value g c =
@@ -14,8 +16,7 @@ leave-requires-clause-value g c =
     (entry_by (Heard c.args.c c.args.kind c.args.message.now) c.hear-answer.result ∷ [], refl, subst A (ap (λ (v : _). v.engine) (sym c.value-2.ensures.value)) adds.stands)
 
 pub leave-requires-clause-mode : goal.leave-requires-clause-mode
-leave-requires-clause-mode g c =
-    ap (λ (v : _). v.makes_room) c.value-2.ensures.value ∙ c.hear-answer.ensures.mode ∙ ap (λ (v : _). v.makes_room) c.value.ensures.value ∙ c.in-Ok.ensures.value.1
+leave-requires-clause-mode g c = grind (arith, common_steps)
 
 pub returns-clause-answers : goal.returns-clause-answers
 returns-clause-answers g c =
@@ -33,10 +34,7 @@ returns-clause-answers g c =
     c.args.pass c.leave.result h c.hear-answer.new.self.engine c.in-Ok.ensures.later c.requires.own same (Heard c.args.c c.args.kind c.args.message.now) SaysNoMore c.hear-answer.result adds is
 
 pub hear-answer-requires-clause-circuit : goal.hear-answer-requires-clause-circuit
-hear-answer-requires-clause-circuit g c =
-    let many : c.in-Ok.turn.value.engine.directory ≡ g.B.Began.beginning.origin.directory = c.in-Ok.ensures.value.0.keeps.directory in
-    let D : Engine _ → Type 0 = λ e. c.args.c < length e.directory.circuits in
-    subst D (ap (λ (v : _). v.engine) (sym c.value.ensures.value)) (let L : Directory → Type 0 = λ d. c.args.c < length d.circuits in subst L (sym many) c.requires.circuit)
+hear-answer-requires-clause-circuit g c = grind (arith, common_steps)
 
 pub hear-answer-requires-clause-mode : goal.hear-answer-requires-clause-mode
 hear-answer-requires-clause-mode g c = ap (λ (v : _). v.makes_room) c.value.ensures.value ∙ c.in-Ok.ensures.value.1

@@ -1,7 +1,9 @@
-use Rattle.std.proofs.Common.{◌≡◌, ◌<◌, List, length, sym, ap, ◌∙◌, subst}
-use Rattle.gts_circuits.specs.Cited.{Directory, Engine, Entry, Known, Stands, after_adding, all_of, entries, entries_under, frames_of}
+use Rattle.std.proofs.Common.{◌≡◌, List, sym, ap, subst}
+use Rattle.gts_circuits.specs.Cited.{Engine, Entry, Known, Stands, after_adding, all_of, entries, entries_under, frames_of}
 use Rattle.gts_circuits.proofs.TurningLemmas.{takes_some}
 use Rattle.gts_circuits.proofs.hall.turns.take_some.Goals as goal
+use Rattle.std.proofs.lemmas.Grind.{common_steps}
+use Rattle.std.proofs.Common.{arith}
 
 pub leave-requires-clause-value : goal.leave-requires-clause-value
 leave-requires-clause-value g c =
@@ -12,8 +14,7 @@ leave-requires-clause-value g c =
     (left.0, left.1, left.1.stands)
 
 pub leave-requires-clause-mode : goal.leave-requires-clause-mode
-leave-requires-clause-mode g c =
-    c.take_some-answer.ensures.mode ∙ ap (λ (v : _). v.makes_room) c.value.ensures.value ∙ c.in-Ok.ensures.value.1
+leave-requires-clause-mode g c = grind (arith, common_steps)
 
 pub returns-clause-taken : goal.returns-clause-taken
 returns-clause-taken g c =
@@ -29,7 +30,4 @@ returns-clause-taken g c =
     c.requires.own same c.args.c (frames_of c.take_some-answer.new.given.frames) c.take_some-answer.result p.0 p.1.added is p.1.stands
 
 pub take_some-answer-requires : goal.take_some-answer-requires
-take_some-answer-requires g c =
-    let many : c.in-Ok.turn.value.engine.directory ≡ g.B.Began.beginning.origin.directory = c.in-Ok.ensures.value.0.keeps.directory in
-    let D : Engine _ → Type 0 = λ e. c.args.c < length e.directory.circuits in
-    record { circuit = subst D (ap (λ (v : _). v.engine) (sym c.value.ensures.value)) (let L : Directory → Type 0 = λ d. c.args.c < length d.circuits in subst L (sym many) c.requires.circuit) }
+take_some-answer-requires g c = grind (arith, common_steps)

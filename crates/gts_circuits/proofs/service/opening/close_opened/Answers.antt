@@ -1,18 +1,13 @@
-use Rattle.std.proofs.Common.{rules, ◌≡◌, ℕ, ◌+◌, ◌∷◌, ◌++◌, [], length, length-append, append_assoc, refl, sym, ap, ◌∙◌, subst, arith}
+use Rattle.std.proofs.Common.{◌≡◌, ℕ, ◌+◌, ◌∷◌, ◌++◌, [], length, length-append, append_assoc, sym, ap, ◌∙◌, subst, arith}
 use lib.ListN.{get_elem?}
 use Rattle.gts_circuits.proofs.PlacesLemmas.{at_less, in_middle, nothing_left}
 use Rattle.gts_circuits.specs.Serving.{lines_seen}
 use Rattle.gts_circuits.proofs.LinesLemmas.{same_itself, same_still, closed_now, closed_more}
 use Rattle.gts_circuits.proofs.service.opening.close_opened.Goals as goal
+use Rattle.std.proofs.lemmas.Grind.{common_steps}
 
 pub loop-both-init : goal.loop-both-init
-loop-both-init g c = record {
-  can = (tt, tt);
-  split = search rules;
-  place = refl;
-  closed = λ k x less at. absurd (omega (arith, less));
-  others = λ k from. same_itself (lines_seen g.L.Lines c.args.lines.now) k;
-}
+loop-both-init g c = grind (arith, common_steps, same_itself)
 
 pub close-requires-clause-is_open : goal.close-requires-clause-is_open
 close-requires-clause-is_open g c =

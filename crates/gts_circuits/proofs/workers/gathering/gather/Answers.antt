@@ -3,6 +3,8 @@ use Rattle.gts_circuits.specs.Cited.{AreGathered, Entry, Known, Line, StartsWith
 use Rattle.gts_circuits.proofs.PlacesLemmas.{in_middle, nothing_left}
 use Rattle.gts_circuits.proofs.GatheredLemmas.{one_gathered}
 use Rattle.gts_circuits.proofs.workers.gathering.gather.Goals as goal
+use Rattle.std.proofs.lemmas.Grind.{common_steps}
+use Rattle.std.proofs.Common.{arith}
 
 pub join-first-requires-clause-hall : goal.join-first-requires-clause-hall
 join-first-requires-clause-hall g c =
@@ -48,8 +50,4 @@ returns-clause-gathered g c =
     subst C (ap (λ (l : _). length l) whole) i.gathered
 
 pub returns-clause-joined : goal.returns-clause-joined
-returns-clause-joined g c =
-    let i = c.loop-worker.invariant in
-    let rest = c.loop-worker.worker-iterator.rest in
-    let whole : c.loop-worker.yielded ≡ c.args.workers.items = nothing_left c.loop-worker.yielded rest.items c.args.workers.items i.split (sym rest.ok.0 ∙ c.in-None.ensures.steps.0) in
-    i.joined ∙ ap (λ (l : _). length l) whole
+returns-clause-joined g c = grind (arith, common_steps, nothing_left)

@@ -4,14 +4,10 @@ use Rattle.gts_circuits.specs.Cited.{Known, Work}
 use Rattle.gts_circuits.proofs.StaffLemmas.{count_receivers, count_senders, count_works, each_worker, at_their_ends}
 use Rattle.gts_circuits.proofs.EndedLemmas.{have_ended, are_joined}
 use Rattle.gts_circuits.proofs.workers.running.run_all.Goals as goal
+use Rattle.std.proofs.lemmas.Grind.{common_steps}
 
 pub line_up-requires : goal.line_up-requires
-line_up-requires g c =
-    let hall = c.args.hall.now in
-    let sockets = c.args.sockets.items in
-    let receivers : length c.staff-first.new.receivers.items ≡ length sockets = ap (λ (l : List (Work _ _)). length l) c.staff-first.ensures.receivers ∙ count_receivers hall 0 sockets in
-    let senders : length c.staff-first.new.senders.items ≡ length sockets = ap (λ (l : List (Work _ _)). length l) c.staff-first.ensures.senders ∙ count_senders hall 0 sockets in
-    omega (arith, receivers, senders, c.staff-first.ensures.room)
+line_up-requires g c = grind (arith, common_steps, count_receivers, count_senders)
 
 pub gather-first-requires-clause-halls : goal.gather-first-requires-clause-halls
 gather-first-requires-clause-halls g c = λ k w at.

@@ -1,22 +1,14 @@
-use Rattle.gts_core.specs.Cited.{Core, HasExtent, Holds, IsExtentOf, IsGathered, Lane, Need, NeedsExtent, core_of, plan_of, row_plan}
+use Rattle.gts_core.specs.Cited.{Core, HasExtent, Holds, IsExtentOf, IsGathered, Lane, Need, NeedsExtent, core_of}
 use Rattle.std.proofs.Common.{List, length, sym, ap, ◌∙◌, subst, arith}
 use Rattle.std.proofs.lemmas.List.{length-map}
 use Rattle.std.proofs.lemmas.Result.{IfOk-weaker}
 use Rattle.gts_event.specs.declared.extent.NeedExtent.{NeedExtent}
 use Rattle.gts_core.proofs.GatherLemmas.{need_gathered}
 use Rattle.gts_core.proofs.whole.Core.need_extent.Goals as goal
+use Rattle.std.proofs.lemmas.Grind.{common_steps}
 
 pub extent_in-requires-clause-stored : goal.extent_in-requires-clause-stored
-extent_in-requires-clause-stored c =
-    let v = c.self.invariant in
-    omega (
-      arith,
-      ap (λ (ls : List Lane). length ls) c.as_slice-lanes.ensures.value,
-      v.parts.lanes,
-      ap length v.parts.kept,
-      length-map v.directory.circuits row_plan,
-      length-map c.self.inside.store.circuits plan_of,
-    )
+extent_in-requires-clause-stored c = grind (arith, common_steps, length-map)
 
 pub extent_in-requires-clause-few : goal.extent_in-requires-clause-few
 extent_in-requires-clause-few c = omega (arith, ap (λ (ls : List Lane). length ls) c.as_slice-lanes.ensures.value, c.self.invariant.few)

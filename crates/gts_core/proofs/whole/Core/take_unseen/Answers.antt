@@ -8,6 +8,7 @@ use Rattle.gts_core.proofs.StepLemmas.{holds_by, take_parts}
 use Rattle.gts_core.proofs.SaidLemmas.{frame_held, says_taken}
 use Rattle.gts_core.proofs.whole.Core.take_unseen.Goals.{After-has_what_it_keeps}
 use Rattle.gts_core.proofs.whole.Core.take_unseen.Goals as goal
+use Rattle.std.proofs.lemmas.Grind.{common_steps}
 
 pub take_on-outcome-requires-clause-can : goal.take_on-outcome-requires-clause-can
 take_on-outcome-requires-clause-can c =
@@ -36,9 +37,7 @@ led c d t parts here =
     (subst (λ (l : Lane). StoreAfter o l.queue i.store c.take_on-outcome.new.store k) at c.take_on-outcome.ensures.store)
 
 here_by : (c : After-has_what_it_keeps) → c.args.c < length c.self.invariant.directory.circuits
-here_by c =
-    let v = c.self.invariant in
-    omega (arith, c.requires, ap (λ (x : Core). length x.kept) c.self.view_is, ap length v.parts.kept, length-map v.directory.circuits row_plan)
+here_by c = grind (arith, common_steps, length-map)
 
 pub invariant_of-self : goal.invariant_of-self
 invariant_of-self c =

@@ -1,10 +1,12 @@
-use Rattle.std.proofs.Common.{◌≡◌, Option, None, refl, ap, subst, ◌∙◌, OnOk}
-use Rattle.gts_engine.specs.Cited.{Device, Engine, GivesRoom, Holds, IsIdleFault, IsRewritten, State, StaysAt, stopped_after}
+use Rattle.std.proofs.Common.{Option, ap, ◌∙◌}
+use Rattle.gts_engine.specs.Cited.{Device, stopped_after}
 use Rattle.gts_engine.proofs.CallLemmas.{never_settled, then_stopped, nothing_failed}
 use Rattle.std.proofs.lemmas.Result.{err_from_is_err_and}
 use Rattle.gts_engine.proofs.FirstLemmas.{compacts_settled, compacts_unsettled}
 use Rattle.gts_engine.proofs.AnsweringLemmas.{cause_then, no_device_done}
 use Rattle.gts_engine.proofs.engine.Engine.compact.Goals as goal
+use Rattle.std.proofs.lemmas.Grind.{common_steps}
+use Rattle.std.proofs.Common.{arith}
 
 pub compact_settled-requires : goal.compact_settled-requires
 compact_settled-requires g c = c.settle.ensures.settles.emptied
@@ -24,8 +26,7 @@ pub returns-in_err-settle-clause-stopped : goal.returns-in_err-settle-clause-sto
 returns-in_err-settle-clause-stopped g c = never_settled _ c.args.self.now.stopped c.settle.result c.in_err-settle.field-0.0 _ c.in_err-settle.was c.settle.ensures.stopped
 
 pub returns-clause-stopped : goal.returns-clause-stopped
-returns-clause-stopped g c =
-    then_stopped c.args.self.now.stopped c.settle.result c.compact_settled.result c.args.self.now c.settle.new.self c.compact_settled.new.self refl c.settle.ensures.stopped c.compact_settled.ensures.stopped
+returns-clause-stopped g c = grind (arith, common_steps, then_stopped)
 
 pub returns-in_err-settle-clause-moments : goal.returns-in_err-settle-clause-moments
 returns-in_err-settle-clause-moments g c = λ tell going none. nothing_failed c.settle.result c.in_err-settle.field-0.0 c.in_err-settle.was (c.settle.ensures.settles.nothing none)
@@ -43,28 +44,16 @@ pub returns-in_err-settle-clause-unchanged : goal.returns-in_err-settle-clause-u
 returns-in_err-settle-clause-unchanged g c = λ none. nothing_failed c.settle.result c.in_err-settle.field-0.0 c.in_err-settle.was (c.settle.ensures.settles.nothing none)
 
 pub returns-clause-moments : goal.returns-clause-moments
-returns-clause-moments g c = λ tell going none.
-    let same = (c.settle.ensures.settles.nothing none).1 in
-    let T : Engine g.row.P.Denot → Type 0 = λ e. e.stopped ≡ None → StaysAt e.directory e.core (g.P.Station.calls e.station) (g.P.Station.calls c.compact_settled.new.self.station) in
-    subst T same (c.compact_settled.ensures.moments tell) going
+returns-clause-moments g c = grind (arith, common_steps)
 
 pub returns-clause-written : goal.returns-clause-written
-returns-clause-written g c = λ tell none.
-    let same = (c.settle.ensures.settles.nothing none).1 in
-    let T : Engine g.row.P.Denot → Type 0 = λ e. OnOk c.compact_settled.result ((s : State) → Holds e.directory e.core s → IsRewritten e.directory s (g.P.Station.calls e.station) (g.P.Station.calls c.compact_settled.new.self.station) c.compact_settled.new.self.used) in
-    subst T same (c.compact_settled.ensures.written tell)
+returns-clause-written g c = grind (arith, common_steps)
 
 pub returns-clause-full : goal.returns-clause-full
-returns-clause-full g c = λ s going none holds.
-    let same = (c.settle.ensures.settles.nothing none).1 in
-    let T : Engine g.row.P.Denot → Type 0 = λ e. (s : State) → e.stopped ≡ None → Holds e.directory e.core s → GivesRoom c.compact_settled.result e.directory s in
-    subst T same c.compact_settled.ensures.full s going holds
+returns-clause-full g c = grind (arith, common_steps)
 
 pub returns-clause-unchanged : goal.returns-clause-unchanged
-returns-clause-unchanged g c = λ none.
-    let same = (c.settle.ensures.settles.nothing none).1 in
-    let T : Engine g.row.P.Denot → Type 0 = λ e. IsIdleFault c.compact_settled.result → c.compact_settled.new.self ≡ e in
-    subst T same c.compact_settled.ensures.unchanged
+returns-clause-unchanged g c = grind (arith, common_steps)
 
 pub returns-clause-kind : goal.returns-clause-kind
 returns-clause-kind g c = λ none. c.compact_settled.ensures.kind

@@ -37,10 +37,7 @@ had_room : (result : Result (Unit {0}) SwitchFault) (d : Directory) (s : State) 
 had_room (Ok done) d s kind free = free
 had_room (Err DiskFault) d s kind free = free
 had_room (Err NoMemory) d s kind free = tt
-had_room (Err SayFault) d s kind free = absurd kind
-had_room (Err (Full at wanted limit)) d s kind free = absurd kind
-had_room (Err (Stopped by)) d s kind free = absurd kind
-had_room (Err Spent) d s kind free = absurd kind
+had_room _ d s kind free = absurd kind
 
 pub returns-clause-full : goal.returns-clause-full
 returns-clause-full g c =

@@ -1,9 +1,11 @@
 use Rattle.std.proofs.Common.{◌≡◌, ℕ, List, Err, subst}
-use Rattle.gts_engine.specs.Cited.{AnswersFull, Engine, HadRoomFor, HasOnlySettled, HasStationCause, Heard, IsAnswered, SayMode, Station, Stopped, engine_of, meanings_of, outcome, stopped_after}
+use Rattle.gts_engine.specs.Cited.{AnswersFull, Engine, HadRoomFor, HasStationCause, Heard, IsAnswered, SayMode, Station, Stopped, engine_of, meanings_of, outcome, stopped_after}
 use Rattle.gts_engine.proofs.SettlingLemmas.{stopped_settles}
 use Rattle.gts_engine.proofs.HearingLemmas.{told_other, not_new_full, never_full, not_told, new_is}
 use Rattle.gts_engine.proofs.AnsweringLemmas.{in_words, stopped_answer}
 use Rattle.gts_engine.proofs.engine.Engine.gather_hear.Goals as goal
+use Rattle.std.proofs.lemmas.Grind.{common_steps}
+use Rattle.std.proofs.Common.{arith}
 
 pub returns-in-Some-clause-called : goal.returns-in-Some-clause-called
 returns-in-Some-clause-called g c =
@@ -52,28 +54,16 @@ returns-in-New-clause-full g c =
     subst F c.self.view_is (subst (λ (m : List ℕ). AnswersFull (engine_of old) (Heard c.args.c c.args.kind m) c.accept_new.result) is.0 c.accept_new.ensures.full)
 
 pub returns-in-Some-clause-idle : goal.returns-in-Some-clause-idle
-returns-in-Some-clause-idle g c = λ idle.
-    let old = c.self.inside.parts in
-    let T : Engine g.row.P.Denot → Type 0 = λ e. HasOnlySettled g.P.Station e (engine_of old) in
-    subst T c.self.view_is (record {
-      settling = λ mode. stopped_settles g.P.Station mode c.in-Some.by (engine_of old) c.in-Some.is;
-      emptied = c.self.invariant.idle c.in-Some.by c.in-Some.is;
-    })
+returns-in-Some-clause-idle g c = grind (arith, common_steps, stopped_settles)
 
 pub returns-in-New-clause-idle : goal.returns-in-New-clause-idle
-returns-in-New-clause-idle g c = λ idle.
-    let T : Engine g.row.P.Denot → Type 0 = λ e. HasOnlySettled g.P.Station e (engine_of c.accept_new.new.parts) in
-    subst T c.self.view_is (c.accept_new.ensures.idle idle)
+returns-in-New-clause-idle g c = grind (arith, common_steps)
 
 pub returns-clause-idle : goal.returns-clause-idle
 returns-clause-idle g c = λ idle. absurd (c.answer.ensures.active idle)
 
 pub returns-in-New-clause-had_room : goal.returns-in-New-clause-had_room
-returns-in-New-clause-had_room g c =
-    let old = c.self.inside.parts in
-    let is = new_is old.directory old.core c.args.c c.args.message.now c.weigh-judged.result c.in-New.bulletin c.in-New.is c.weigh-judged.ensures in
-    let F : Engine g.row.P.Denot → Type 0 = λ e. HadRoomFor e (Heard c.args.c c.args.kind c.args.message.now) c.accept_new.result in
-    subst F c.self.view_is (subst (λ (m : List ℕ). HadRoomFor (engine_of old) (Heard c.args.c c.args.kind m) c.accept_new.result) is.0 c.accept_new.ensures.had_room)
+returns-in-New-clause-had_room g c = grind (arith, common_steps, new_is)
 
 pub returns-clause-had_room : goal.returns-clause-had_room
 returns-clause-had_room g c =

@@ -3,10 +3,11 @@ use Rattle.std.proofs.lemmas.Result.{err_from_is_err_and}
 use Rattle.gts_engine.specs.Cited.{Directory, Station}
 use Rattle.gts_engine.proofs.RoomingLemmas.{idle_full}
 use Rattle.gts_engine.proofs.RoomGatherLemmas.{gathers_plain, gathers_nothing, gathers_full, gathers_left, gathers_made}
-use Rattle.gts_engine.specs.Cited.{NoMemory}
 use Rattle.gts_engine.proofs.AnsweringLemmas.{cause_alike, cause_then, no_device_done, no_device_full}
 use Rattle.gts_engine.proofs.IdleLemmas.{no_device}
 use Rattle.gts_engine.proofs.engine.Engine.gather_hear_with_room.Goals as goal
+use Rattle.std.proofs.lemmas.Grind.{common_steps}
+use Rattle.std.proofs.Common.{arith}
 
 pub returns-in_default-clause-called : goal.returns-in_default-clause-called
 returns-in_default-clause-called g c = λ mode.
@@ -51,34 +52,17 @@ returns-clause-called g c = λ mode.
     c.compact_settled.new.self c.gather_hear.result c.gather_hear.new.self c.in_ok-compact_settled.ensures.compaction (c.gather_hear.ensures.called mode)
 
 pub compact_settled-requires : goal.compact_settled-requires
-compact_settled-requires g c =
-    let first = c.gather_hear-answer.result in
-    let wanted = sym c.bytes_wanted.ensures ∙ c.in-Some.is in
-    (c.gather_hear-answer.ensures.idle (idle_full first c.in-Some.bytes wanted)).emptied
+compact_settled-requires g c = grind (arith, common_steps, idle_full)
 
 pub gather_hear-requires : goal.gather_hear-requires
 gather_hear-requires g c =
     subst (λ (d : Directory). c.args.c < length d.circuits) (sym (c.in_ok-compact_settled.ensures.compaction.directory ∙ (c.gather_hear-answer.ensures.called Station).directory)) c.requires
 
 pub returns-in_err-size-clause-cause : goal.returns-in_err-size-clause-cause
-returns-in_err-size-clause-cause g c =
-    let first = c.gather_hear-answer.result in
-    let none = no_device_full first c.in-Some.bytes (sym c.bytes_wanted.ensures ∙ c.in-Some.is) in
-    let p = err_from_is_err_and c.from_residual.result c.from_residual.ensures.1 in
-    rw (p.1, p.2, c.in_err-size.ensures.memory) (no_device NoMemory first _ _ _ _ tt none c.gather_hear-answer.ensures.cause)
+returns-in_err-size-clause-cause g c = grind (arith, common_steps, no_device_full, err_from_is_err_and, no_device)
 
 pub returns-in_err-compact_settled-clause-cause : goal.returns-in_err-compact_settled-clause-cause
-returns-in_err-compact_settled-clause-cause g c =
-    let first = c.gather_hear-answer.result in
-    let none = no_device_full first c.in-Some.bytes (sym c.bytes_wanted.ensures ∙ c.in-Some.is) in
-    let p = err_from_is_err_and c.from_residual-in_err-compact_settled.result c.from_residual-in_err-compact_settled.ensures.1 in
-    rw (p.1, p.2)
-    (cause_alike c.compact_settled.result c.in_err-compact_settled.field-0.0 _ _ _ _ c.in_err-compact_settled.was
-    (cause_then first c.compact_settled.result _ _ _ _ _ _ none c.gather_hear-answer.ensures.cause c.compact_settled.ensures.cause))
+returns-in_err-compact_settled-clause-cause g c = grind (arith, common_steps, no_device_full, err_from_is_err_and, cause_alike, cause_then)
 
 pub returns-clause-cause : goal.returns-clause-cause
-returns-clause-cause g c =
-    let first = c.gather_hear-answer.result in
-    let none = no_device_full first c.in-Some.bytes (sym c.bytes_wanted.ensures ∙ c.in-Some.is) in
-    cause_then c.compact_settled.result c.gather_hear.result _ _ _ _ _ _ (no_device_done c.compact_settled.result tt c.in_ok-compact_settled.was)
-    (cause_then first c.compact_settled.result _ _ _ _ _ _ none c.gather_hear-answer.ensures.cause c.compact_settled.ensures.cause) c.gather_hear.ensures.cause
+returns-clause-cause g c = grind (arith, common_steps, no_device_full, cause_then, no_device_done)

@@ -1,7 +1,6 @@
 use Rattle.std.proofs.Common.{◌≡◌, ◌+◌, Bool, false, List, Ok, Err, refl, sym, ap, subst, ◌∙◌, arith}
 use Rattle.std.proofs.lemmas.Result.{err_from_is_err_and}
 use Rattle.gts_engine.specs.Cited.{Call, Engine, EngineParts, HasFewDraws, IsOpened, IsReopening, IsSound, engine_of, held_pieces, no_records, switch_meanings}
-use Rattle.gts_record.specs.declared.fault.OpenFault.TheVariants.{NoMemory}
 use Rattle.gts_engine.proofs.GoingLemmas.{gathering_of, opened_on}
 use Rattle.gts_engine.proofs.StepLemmas.{closed_alone, idle_going}
 use Rattle.gts_engine.proofs.SettlingLemmas.{few_none}
@@ -9,15 +8,13 @@ use Rattle.gts_journal.proofs.LawLemmas.{syncs_silent}
 use Rattle.gts_engine.proofs.ReopenLemmas.{syncing, same_place, same_core, reopen_fault, tried_on}
 use Rattle.gts_engine.proofs.SwitchLemmas.{stopped_reopening, done_reopening, failed_reopening}
 use Rattle.gts_engine.proofs.engine.Engine.reopen_settled.Goals as goal
+use Rattle.std.proofs.lemmas.Grind.{common_steps}
 
 abbrev gathered_of : {P : Type 0} → Engine P → Bool
 gathered_of e = e.gathered
 
 pub returns-in-Some-clause-reopening : goal.returns-in-Some-clause-reopening
-returns-in-Some-clause-reopening g c =
-    let p = c.self.inside.parts in
-    let T : Engine g.row.P.Denot → Type 0 = λ e. IsReopening (switch_meanings g.P.Station) g.P.Station.observed (Err NoMemory) e (engine_of p) in
-    subst T c.self.view_is (stopped_reopening g.P.Station (engine_of p))
+returns-in-Some-clause-reopening g c = grind (arith, common_steps, stopped_reopening)
 
 pub returns-clause-reopening : goal.returns-clause-reopening
 returns-clause-reopening g c =

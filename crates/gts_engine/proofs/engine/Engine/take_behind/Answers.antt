@@ -3,6 +3,8 @@ use Rattle.gts_engine.specs.Cited.{AnswersIn, Caller, Engine, EngineParts, Nothi
 use Rattle.gts_engine.proofs.AnsweringLemmas.{still_counts}
 use Rattle.gts_engine.proofs.BehindLemmas.{takes_behind, silent_behind, each_none, both_some}
 use Rattle.gts_engine.proofs.engine.Engine.take_behind.Goals as goal
+use Rattle.std.proofs.lemmas.Grind.{common_steps}
+use Rattle.std.proofs.Common.{arith}
 
 pub returns-clause-called : goal.returns-clause-called
 returns-clause-called g c =
@@ -29,10 +31,4 @@ returns-clause-silent g c =
     subst T c.self.view_is (silent_behind c.take_behind.result (engine_of old).held (engine_of new).held (each_none c.take_behind.result (new ≡ old) ((engine_of new).held ≡ (engine_of old).held) (λ e. ap (λ (p : EngineParts g.row.P.Denot). (engine_of p).held) e) c.take_behind.ensures.none) c.take_behind.ensures.held)
 
 pub returns-clause-sound : goal.returns-clause-sound
-returns-clause-sound g c =
-    let old = c.self.inside.parts in
-    let new = c.take_behind.new.parts in
-    let disk = g.P.Station.disk_faults in
-    let say = g.P.Station.say_faults in
-    let T : Engine g.row.P.Denot → Type 0 = λ e. (disk new.station ≡ disk e.station) × (say new.station ≡ say e.station) in
-    subst T c.self.view_is (still_counts g.P.Station Caller (Taken c.args.c) c.take_behind.result old new c.take_behind.ensures.none c.take_behind.ensures.answered)
+returns-clause-sound g c = grind (arith, common_steps, still_counts)

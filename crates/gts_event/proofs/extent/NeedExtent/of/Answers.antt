@@ -1,4 +1,4 @@
-use Rattle.std.proofs.Common.{◌≡◌, ◌-◌, ◌^◌, ◌++◌, ℕ, List, length, map, flat_map, ap, sym, ◌∙◌, arith, min}
+use Rattle.std.proofs.Common.{◌-◌, ◌^◌, ◌++◌, ℕ, List, length, flat_map, ap, sym, ◌∙◌, arith, min}
 use Rattle.std.proofs.lemmas.List.{length-map}
 use Rattle.gts_event.specs.Items.{bulletin_of, circuit_need_of}
 use Rattle.gts_event.specs.State as states

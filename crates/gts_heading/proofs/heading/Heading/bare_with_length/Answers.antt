@@ -1,15 +1,11 @@
-use Rattle.std.proofs.Common.{◌≡◌, Ok}
-use Rattle.gts_heading.specs.Cited.{bare_heading_at, fields_of}
 use Rattle.gts_heading.proofs.HeadingLemmas.{bare_rest}
 use Rattle.gts_heading.proofs.heading.Heading.bare_with_length.Goals as goal
+use Rattle.std.proofs.lemmas.Grind.{common_steps}
+use Rattle.std.proofs.Common.{arith}
 
 -- what the cursor has left is what was not read
 pub overflow_sub-result : goal.overflow_sub-result
-overflow_sub-result c =
-    let read : bare_heading_at c.args.bytes.now ≡ Ok (fields_of c.in_ok-heading.heading, c.rest.result.now) = rw (← c.new-cursor.ensures, c.rest.ensures) c.in_ok-heading.ensures in
-    (bare_rest c.args.bytes.now (fields_of c.in_ok-heading.heading) c.rest.result.now read).0
+overflow_sub-result c = grind (arith, common_steps, bare_rest)
 
 pub returns-clause-exact : goal.returns-clause-exact
-returns-clause-exact c =
-    let read : bare_heading_at c.args.bytes.now ≡ Ok (fields_of c.in_ok-heading.heading, c.rest.result.now) = rw (← c.new-cursor.ensures, c.rest.ensures) c.in_ok-heading.ensures in
-    (bare_rest c.args.bytes.now (fields_of c.in_ok-heading.heading) c.rest.result.now read).1
+returns-clause-exact c = grind (arith, common_steps, bare_rest)

@@ -1,4 +1,4 @@
-use Rattle.std.proofs.Common.{length, sym, ap, ◌∙◌, append_assoc, arith}
+use Rattle.std.proofs.Common.{append_assoc, arith}
 use Rattle.std.proofs.lemmas.List.{append-nil, length-take-le}
 use Rattle.std.proofs.lemmas.Grind.{common_steps}
 use Rattle.gts_heading.specs.Heading.{heading_text}
@@ -13,9 +13,7 @@ unfolding heading_text
 returns-in-Some-clause-written c = rw c.in-Some.is (grind (arith, append_assoc))
 
 pub returns-in-None-clause-length : goal.returns-in-None-clause-length
-returns-in-None-clause-length c =
-    sym (length-take-le c.put-at-9.result c.put-at-9.new.into (omega arith)) ∙ ap length (returns-in-None-clause-written c)
+returns-in-None-clause-length c = grind (arith, common_steps, length-take-le, returns-in-None-clause-written)
 
 pub returns-in-Some-clause-length : goal.returns-in-Some-clause-length
-returns-in-Some-clause-length c =
-    sym (length-take-le c.put.result c.put.new.into (grind (arith, common_steps))) ∙ ap length (returns-in-Some-clause-written c)
+returns-in-Some-clause-length c = grind (arith, common_steps, length-take-le, common_steps, returns-in-Some-clause-written)

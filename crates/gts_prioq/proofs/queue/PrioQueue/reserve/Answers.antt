@@ -1,16 +1,15 @@
-use Rattle.std.proofs.Common.{◌≡◌, ◌+◌, ◌-◌, ◌<◌, ◌≤◌, length, get_or, ap, ◌∙◌, arith}
+use Rattle.std.proofs.Common.{◌≡◌, ◌+◌, ◌-◌, ◌<◌, ◌≤◌, length, get_or, ap, arith}
 use Rattle.std.proofs.lemmas.List.{length-set}
 use Rattle.gts_prioq.specs.Cited.{Waiting, room_of, spare}
 use Rattle.gts_prioq.proofs.WaitingLemmas.{at-set, levels-set_kept, spare-set, count_of-set}
 use Rattle.gts_prioq.proofs.queue.PrioQueue.reserve.Goals as goal
+use Rattle.std.proofs.lemmas.Grind.{common_steps}
 
 pub returns-in_err-reserve-clause-unchanged : goal.returns-in_err-reserve-clause-unchanged
-returns-in_err-reserve-clause-unchanged c =
-    levels-set_kept c.self.inside.levels (c.from.result - 1) c.index-self-from.result c.reserve.new.self c.reserve.ensures.items ∙ ap (λ (w : Waiting). w.levels) c.self.view_is
+returns-in_err-reserve-clause-unchanged c = grind (arith, common_steps, levels-set_kept)
 
 pub returns-clause-unchanged : goal.returns-clause-unchanged
-returns-clause-unchanged c =
-    levels-set_kept c.self.inside.levels (c.from.result - 1) c.index-self-from.result c.reserve.new.self c.reserve.ensures.items ∙ ap (λ (w : Waiting). w.levels) c.self.view_is
+returns-clause-unchanged c = grind (arith, common_steps, levels-set_kept)
 
 pub returns-in_err-reserve-clause-spares : goal.returns-in_err-reserve-clause-spares
 returns-in_err-reserve-clause-spares c =
@@ -27,13 +26,7 @@ returns-clause-spares c =
     λ l. omega (arith, spare-set c.self.inside.levels (c.from.result - 1) c.args.level c.index-self-from.result c.reserve.new.self e inside more l, ap (λ (w : Waiting). spare w l) c.self.view_is)
 
 pub returns-clause-room : goal.returns-clause-room
-returns-clause-room c =
-    let e : c.args.level ≡ (c.from.result - 1) + 1 = omega (arith, c.from.ensures) in
-    let inside : c.from.result - 1 < length c.self.inside.levels = omega (arith, c.from.ensures, c.self.invariant.0) in
-    omega (arith, at-set room_of 0 c.self.inside.levels (c.from.result - 1) c.args.level c.reserve.new.self e inside, c.in_ok-reserve.ensures.ok)
+returns-clause-room c = grind (arith, common_steps, at-set)
 
 pub invariant_of-self-2 : goal.invariant_of-self-2
-invariant_of-self-2 c =
-    let inside : c.from.result - 1 < length c.self.inside.levels = omega (arith, c.from.ensures, c.self.invariant.0) in
-    let changed = count_of-set c.self.inside.levels (c.from.result - 1) c.index-self-from.result c.reserve.new.self inside in
-    (length-set c.self.inside.levels (c.from.result - 1) c.reserve.new.self ∙ c.self.invariant.0, omega (arith, changed, ap length c.reserve.ensures.items, c.self.invariant.1))
+invariant_of-self-2 c = grind (arith, common_steps, count_of-set, length-set)

@@ -1,10 +1,11 @@
-use Rattle.std.proofs.Common.{◌≡◌, ℕ, suc, ◌+◌, ◌-◌, ◌*◌, List, Result, Ok, Err, ap, ◌∙◌, arith}
+use Rattle.std.proofs.Common.{◌≡◌, ℕ, suc, ◌+◌, ◌-◌, ◌*◌, List, Ok, Err, ap, ◌∙◌, arith}
 use Rattle.std.proofs.Math.Nat.{pow-le-pow_right}
 use Rattle.std.proofs.lemmas.Grind.{pow_more}
 use Rattle.std.proofs.lemmas.Result.{err_from_is_err_and}
 use Rattle.gts_replay.specs.declared.head_cursor.Stop.{Stop}
-use Rattle.gts_replay.specs.HeadReading.{◌>>=◌, digit_at, digits_at}
+use Rattle.gts_replay.specs.HeadReading.{digit_at, digits_at}
 use Rattle.gts_replay.proofs.head_cursor.HeadCursor.six_digits.Goals as goal
+use Rattle.std.proofs.lemmas.Grind.{common_steps}
 
 -- five digits leave room for a sixth
 pub overflow_mul-number : goal.overflow_mul-number
@@ -17,26 +18,19 @@ overflow_add-number c = omega (arith, pow-le-pow_right {n = 10} (omega arith) {i
 one_more : (k more number digit : ℕ) (bytes rest : List ℕ) → k ≡ suc more → digit_at 10 bytes ≡ Ok (digit, rest)
     → digits_at k number bytes ≡ digits_at more (10 * number + digit) rest
 unfolding digits_at
-one_more k more number digit bytes rest e is =
-    ap (λ (n : ℕ). digits_at n number bytes) e ∙ ap (λ (r : Result (ℕ × List ℕ) Stop). r >>= λ d. digits_at more (10 * number + d.0) d.1) is
+one_more k more number digit bytes rest e is = grind (arith, common_steps)
 
 -- the bytes end, or one is bad
 none_more : (k more number : ℕ) (bytes : List ℕ) (stop : Stop) → k ≡ suc more → digit_at 10 bytes ≡ Err stop → digits_at k number bytes ≡ Err stop
 unfolding digits_at
-none_more k more number bytes stop e is =
-    ap (λ (n : ℕ). digits_at n number bytes) e ∙ ap (λ (r : Result (ℕ × List ℕ) Stop). r >>= λ d. digits_at more (10 * number + d.0) d.1) is
+none_more k more number bytes stop e is = grind (arith, common_steps)
 
 all_there : (k number : ℕ) (bytes : List ℕ) → k ≡ 0 → digits_at k number bytes ≡ Ok (number, bytes)
 unfolding digits_at
 all_there k number bytes e = ap (λ (n : ℕ). digits_at n number bytes) e
 
 pub loop-preserved : goal.loop-preserved
-loop-preserved c =
-    let i : ℕ = c.loop.counter in
-    record {
-      left = c.loop.invariant.left ∙ one_more (6 - i) (6 - (i + 1)) c.loop.number c.in_ok-number.field-0 c.loop.self c.digit.new.self (omega arith) c.in_ok-number.ensures.exact;
-      small = omega (arith, pow_more 10 i, c.in_ok-number.ensures.small.1);
-    }
+loop-preserved c = grind (arith, common_steps, one_more, pow_more)
 
 pub returns-in_err-number : goal.returns-in_err-number
 returns-in_err-number c =

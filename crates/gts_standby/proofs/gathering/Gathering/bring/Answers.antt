@@ -3,6 +3,7 @@ use Rattle.std.proofs.lemmas.Bool.{eqb-true, eqb-false}
 use Rattle.gts_standby.proofs.ReadLemmas.{batch_reads}
 use Rattle.gts_standby.proofs.GatherLemmas.{block_by, brings_none, brings_all, still_brings}
 use Rattle.gts_standby.proofs.gathering.Gathering.bring.Goals as goal
+use Rattle.std.proofs.lemmas.Grind.{common_steps}
 
 pub returns-then-is_empty-clause-brought : goal.returns-then-is_empty-clause-brought
 returns-then-is_empty-clause-brought g c = λ s rs h.
@@ -23,11 +24,7 @@ returns-in-Ok-clause-brought g c = λ s rs h.
     (λ tell. record { text = c.in-Ok.ensures.added tell; stands = c.in-Ok.ensures.stands tell; place = c.in-Ok.ensures.place })
 
 pub returns-in-Ok-clause-moments : goal.returns-in-Ok-clause-moments
-returns-in-Ok-clause-moments g c = λ tell s rs h.
-    batch_reads c.args.directory.now s (g.P.Station.calls c.args.station.now) c.args.self.now.journal (h.stands tell) rs c.args.self.now.batch h.next (g.P.Station.calls c.append_batch.new.station)
-    (c.append_batch.ensures.moments tell)
+returns-in-Ok-clause-moments g c = grind (arith, common_steps, batch_reads)
 
 pub returns-in-Err-clause-moments : goal.returns-in-Err-clause-moments
-returns-in-Err-clause-moments g c = λ tell s rs h.
-    batch_reads c.args.directory.now s (g.P.Station.calls c.args.station.now) c.args.self.now.journal (h.stands tell) rs c.args.self.now.batch h.next (g.P.Station.calls c.append_batch.new.station)
-    (c.append_batch.ensures.moments tell)
+returns-in-Err-clause-moments g c = grind (arith, common_steps, batch_reads)

@@ -2,7 +2,7 @@ use Rattle.std.proofs.Common.{◌≡◌, ℕ, List, ◌+◌, ◌-◌, ◌≤◌,
 use Rattle.gts_record.specs.Record as texts
 use Rattle.gts_standby.specs.Cited.{HasRead, InFeed, IsJudged, IsUnsealed, IsWhole, Version, admits, gate_behind, held, record_of, record_size, seal, seal_size, sealed_at, written}
 use Rattle.gts_standby.proofs.HeaderLemmas.{passed}
-use Rattle.gts_standby.proofs.FedLemmas.{sealed_read, none_read, ends_there, at_end, found_fits_there}
+use Rattle.gts_standby.proofs.FedLemmas.{sealed_read, none_read, ends_there, found_fits_there}
 use Rattle.gts_standby.proofs.AddLemmas.{next_refused, next_none}
 use Rattle.gts_standby.proofs.GatherLemmas.{admitted_in, at_gathering, refused_there}
 use Rattle.gts_standby.proofs.WholeLemmas.{whole_read, looked_all}
@@ -19,9 +19,9 @@ returns-in-None-clause-gathered g c = λ told s fed kept read is_end.
     let version : c.version-version.result ≡ written = c.version-version.ensures ∙ c.requires.going.current in
     let here : sealed_at written x.batch.seal ahead.bytes ≡ None =
     at_gathering c.version-version.result x.seal x.batch.seal c.bytes.result.now ahead.bytes none version c.requires.going.seal_is c.bytes.ensures c.in-None.ensures.found in
-    let unsealed = subst (λ (v : Version). IsUnsealed c.end_at.result v ahead c.args.at) version c.end_at.ensures.end in (
+    let unsealed = subst (λ (v : Version). IsUnsealed c.end_at.result v ahead c.args.at) version c.end_at.ensures in (
       next_none d x.batch.seal s (gate_behind x) fed (none_read written x.batch.seal fed left ahead now c.in_ok-fill.ensures.enough here),
-      ends_there c.end_at.result written fed left ahead c.args.at now c.in_ok-fill.ensures.enough unsealed (at_end c.end_at.result c.end_at.ensures.kind),
+      ends_there c.end_at.result written fed left ahead c.args.at now c.in_ok-fill.ensures.enough unsealed,
     )
 
 pub returns-then-not-branch-clause-gathered : goal.returns-then-not-branch-clause-gathered
@@ -90,7 +90,7 @@ returns-else-not-branch-clause-gathered g c =
     }
 
 pub returns-in-None-clause-whole : goal.returns-in-None-clause-whole
-returns-in-None-clause-whole g c = λ told w. looked_all c.end_at.result c.version-version.result c.fill.new.self c.args.at _ c.end_at.ensures.end (c.in_ok-fill.ensures.kept told _ (whole_read c.args.ahead.now _ w)).all
+returns-in-None-clause-whole g c = λ told w. looked_all c.end_at.result c.version-version.result c.fill.new.self c.args.at _ c.end_at.ensures (c.in_ok-fill.ensures.kept told _ (whole_read c.args.ahead.now _ w)).all
 
 pub returns-else-not-branch-clause-whole : goal.returns-else-not-branch-clause-whole
 returns-else-not-branch-clause-whole g c = λ told w. subst (λ (a : InFeed). IsWhole a (g.S.Source.left c.fill.new.source)) (sym c.pass.ensures) (c.in_ok-fill.ensures.kept told _ (whole_read c.args.ahead.now _ w)).all

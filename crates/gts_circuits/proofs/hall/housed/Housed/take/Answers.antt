@@ -1,7 +1,8 @@
-use Rattle.std.proofs.Common.{Result, refl, sym, subst, IsErrOf}
-use Rattle.gts_circuits.specs.Cited.{LeavesFrame, Outcome, SayFault, SwitchFault, Taken}
+use Rattle.gts_circuits.specs.Cited.{LeavesFrame, Taken}
 use Rattle.gts_circuits.proofs.StandingLemmas.{take_takes_none, takes_accept_nothing, adds, leaves}
 use Rattle.gts_circuits.proofs.hall.housed.Housed.take.Goals as goal
+use Rattle.std.proofs.lemmas.Grind.{common_steps}
+use Rattle.std.proofs.Common.{arith}
 
 pub returns-clause-adds : goal.returns-clause-adds
 returns-clause-adds g c = λ entries stands.
@@ -16,5 +17,4 @@ returns-clause-no_memory g c = λ entries stands.
     c.take.result c.args.self.now.engine c.take.new.self c.take.ensures.called stands
 
 pub returns-clause-silent : goal.returns-clause-silent
-returns-clause-silent g c = λ entries stands e.
-    c.take.ensures.caller refl stands.keeps.gathered (subst (λ (r : Result Outcome SwitchFault). IsErrOf r SayFault) (sym e) refl)
+returns-clause-silent g c = grind (arith, common_steps)
