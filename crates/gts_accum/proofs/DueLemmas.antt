@@ -1,12 +1,8 @@
 -- What is due of the bytes that were taken of a file is short.
-use Rattle.std.proofs.Common.{ℕ, ◌+◌, ◌≤◌, List, [], ◌∷◌, length, arith}
-use Rattle.std.proofs.lemmas.Bool.{lt-ltb}
-use Rattle.std.proofs.lemmas.List.{append-nil, length-append, length-drop, length-take}
-use Rattle.gts_accum.specs.Cited.{Bare, Format, Head, IsNext, IsSound, MOST_DUE, Next, UnpackedParts, Whole, back_of, due, opening, to_come, unpacking_of}
+use Rattle.gts_accum.proofs.Cited.{ℕ, ◌+◌, ◌≤◌, List, [], ◌∷◌, length, arith, lt-ltb, append-nil, length-append, length-drop, length-take, Bare, Format, Head, IsNext, IsSound, MOST_DUE, Next, UnpackedParts, Whole, back_of, due, opening, to_come, unpacking_of, common_steps}
 use Rattle.gts_accum.specs.declared.next.Next.TheVariants.{Entry}
 use Rattle.gts_accum.proofs.ReadLemmas.{length-opening}
 use Rattle.gts_accum.proofs.UnpackingLemmas.{head-cut}
-use Rattle.std.proofs.lemmas.Grind.{common_steps}
 
 pub opening_short : (c : ℕ) (format : Format) (size : ℕ) → length (opening c format size) + 2 ≤ MOST_DUE
 opening_short c Whole size = omega (arith, length-opening c Whole size)

@@ -1,11 +1,6 @@
 -- What a file is read as, and the grammar of files.
-use Rattle.std.proofs.Common.{◌≡◌, ℕ, ◌+◌, ◌-◌, ◌<◌, ◌≤◌, List, [], ◌∷◌, ◌++◌, length, take, replicate, inl, inr, refl, sym, ap, subst, ◌∙◌, append_assoc, arith, flat_map}
-use Rattle.std.proofs.lemmas.List.{append-nil, length-append, length-replicate, take_at}
-use Rattle.std.proofs.Math.Seq.{take-append-add}
-use Rattle.gts_accum.specs.Cited.{Begins, ENTRY_HEAD, Entry, Format, IsEntry, IsFile, IsHead, IsHeadFront, IsSize, entry_text, format_in, head_text, size_in}
+use Rattle.gts_accum.proofs.Cited.{◌≡◌, ℕ, ◌+◌, ◌-◌, ◌<◌, ◌≤◌, List, [], ◌∷◌, ◌++◌, length, take, replicate, inl, inr, refl, sym, ap, subst, ◌∙◌, append_assoc, arith, flat_map, append-nil, length-append, length-replicate, take_at, take-append-add, Begins, ENTRY_HEAD, Entry, Format, IsEntry, IsFile, IsHead, IsHeadFront, IsSize, entry_text, format_in, head_text, size_in, same_parts, common_steps}
 use Rattle.gts_accum.proofs.WrittenLemmas.{given-head, length-head, size-head, format-head}
-use Rattle.gts_frame.proofs.LawLemmas.{same_parts}
-use Rattle.std.proofs.lemmas.Grind.{common_steps}
 
 -- ---- heads and entries in front
 

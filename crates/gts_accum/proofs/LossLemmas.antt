@@ -1,14 +1,8 @@
 -- The bad place that is computed of a stream is the one of the grammar.
-use Rattle.std.proofs.Common.{◌≡◌, ℕ, ◌+◌, ◌-◌, ◌<◌, ◌≤◌, min, Bool, true, false, List, [], ◌∷◌, ◌++◌, length, take, drop, Option, Some, None, inl, inr, refl, sym, ap, subst, ◌∙◌, append_assoc, arith, is_none, flat_map, option_map}
-use Rattle.gts_accum.specs.Cited.{AllByRecursion, FrameField, IsBadStream, IsPiece, IsStream, IsStreamFront, IsStreamWithin, LONGEST_STREAM, Piece, bad_in_stream, find, held_in, loss_in, open_part, piece_text, range_with_len, signs_in, stream_seen}
-use Rattle.std.proofs.lemmas.Bool.{cases_lt, lt-ltb, le-ltb}
-use Rattle.std.proofs.lemmas.List.{append-nil, length-take, take_all, take-take, take-append-drop}
-use Rattle.gts_frame.proofs.LawLemmas.{shows-computed, shows-one, open-front, front-open}
-use Rattle.gts_frame.proofs.ShowsLemmas.{reads-pieces}
+use Rattle.gts_accum.proofs.Cited.{◌≡◌, ℕ, ◌+◌, ◌-◌, ◌<◌, ◌≤◌, min, Bool, true, false, List, [], ◌∷◌, ◌++◌, length, take, drop, Option, Some, None, inl, inr, refl, sym, ap, subst, ◌∙◌, append_assoc, arith, is_none, flat_map, option_map, AllByRecursion, FrameField, IsBadStream, IsPiece, IsStream, IsStreamFront, IsStreamWithin, LONGEST_STREAM, Piece, bad_in_stream, find, held_in, loss_in, open_part, piece_text, range_with_len, signs_in, stream_seen, cases_lt, lt-ltb, le-ltb, append-nil, length-take, take_all, take-take, take-append-drop, shows-computed, shows-one, open-front, front-open, reads-pieces, common_steps}
 use Rattle.gts_accum.proofs.StreamLemmas.{loss-found, bad_by}
 use Rattle.gts_accum.proofs.FileLemmas.{first_is}
 use Rattle.gts_accum.proofs.PlaceLemmas.{one-number}
-use Rattle.std.proofs.lemmas.Grind.{common_steps}
 
 -- ---- streams and their fronts, by what they leave open
 

@@ -1,18 +1,8 @@
 -- Streams that are packed as they are read.
-use Rattle.std.proofs.Common.{◌≡◌, ℕ, ◌+◌, ◌-◌, ◌<◌, ◌≤◌, min, Bool, false, cond, List, [], ◌∷◌, ◌++◌, length, take, drop, Option, Some, None, refl, sym, ap, subst, ◌∙◌, append_assoc, arith, is_none, option_map, IfSome, Result, Ok, Err}
-use Rattle.std.proofs.lemmas.Bool.{le-ltb, lt-ltb}
-use Rattle.std.proofs.lemmas.List.{append-nil, length-append, length-drop, length-take-le, take_all, take_at, take-append-drop, take-append-le}
-use Rattle.std.proofs.Math.Seq.{take-append-add}
-use Rattle.std.proofs.lemmas.Option.{none-some}
-use Rattle.gts_accum.specs.Cited.{Breaks, Call, Decoding, FrameField, FrameStep as Step, Holds, IsBad, LONGEST_STREAM, Lost, Makes, Outside, PackEnd, Packs, PieceEnds, ReadsOn, SameFiles, SaysFront, SaysOnly, Sign, Stands, Stop, Tells, Unsaid, Whole, after_step, bad_in_stream, cut_at, entries_in, entries_text, head_text, held_in, loss_in, messages_of, on, packed, signs_in, signs_of_step, stream_seen}
-use Rattle.gts_traits.proofs.OutsideLemmas.{on-append}
-use Rattle.gts_traits.proofs.SayLemmas.{said_more, front_behind, front_more}
+use Rattle.gts_accum.proofs.Cited.{◌≡◌, ℕ, ◌+◌, ◌-◌, ◌<◌, ◌≤◌, min, Bool, false, cond, List, [], ◌∷◌, ◌++◌, length, take, drop, Option, Some, None, refl, sym, ap, subst, ◌∙◌, append_assoc, arith, is_none, option_map, IfSome, Result, Ok, Err, le-ltb, lt-ltb, append-nil, length-append, length-drop, length-take-le, take_all, take_at, take-append-drop, take-append-le, take-append-add, none-some, Breaks, Call, Decoding, FrameField, FrameStep as Step, Holds, IsBad, LONGEST_STREAM, Lost, Makes, Outside, PackEnd, Packs, PieceEnds, ReadsOn, SameFiles, SaysFront, SaysOnly, Sign, Stands, Stop, Tells, Unsaid, Whole, after_step, bad_in_stream, cut_at, entries_in, entries_text, head_text, held_in, loss_in, messages_of, on, packed, signs_in, signs_of_step, stream_seen, on-append, said_more, front_behind, front_more, reads-open, reads-lost, reads-part, IsBreak, IsBreak-from, IsFirst, find-first, take_split, common_steps}
 use Rattle.gts_frame.specs.declared.step.Step.TheVariants as step
-use Rattle.gts_frame.proofs.SignLemmas.{reads-open, reads-lost, reads-part, IsBreak, IsBreak-from}
-use Rattle.gts_frame.proofs.TestLemmas.{IsFirst, find-first, take_split}
 use Rattle.gts_accum.specs.declared.pack_end.PackEnd.TheVariants as end
 use Rattle.gts_accum.proofs.StreamLemmas.{messages-both}
-use Rattle.std.proofs.lemmas.Grind.{common_steps}
 
 -- ---- entries
 

@@ -1,7 +1,5 @@
 -- What calls make of a file whose source is observed, one after another.
-use Rattle.std.proofs.Common.{◌≡◌, ◌+◌, ◌-◌, ◌≤◌, List, ℕ, [], ◌∷◌, ◌++◌, length, take, Result, Ok, Err, refl, sym, ap, subst, ◌∙◌, append_assoc, arith}
-use Rattle.std.proofs.lemmas.List.{length-append}
-use Rattle.gts_accum.specs.Cited.{Covers, Format, Head, IsNext, LONGEST_FILE, Next, Passes, Rest, Takes, UnpackedParts, Unpacking, ahead, ahead_of, back_of, behind, entry_rest, reading, reading_from, rest_of, unpacking_of}
+use Rattle.gts_accum.proofs.Cited.{◌≡◌, ◌+◌, ◌-◌, ◌≤◌, List, ℕ, [], ◌∷◌, ◌++◌, length, take, Result, Ok, Err, refl, sym, ap, subst, ◌∙◌, append_assoc, arith, length-append, Covers, Format, Head, IsNext, LONGEST_FILE, Next, Passes, Rest, Takes, UnpackedParts, Unpacking, ahead, ahead_of, back_of, behind, entry_rest, reading, reading_from, rest_of, unpacking_of}
 use Rattle.gts_accum.specs.declared.next.Next.TheVariants.{Entry}
 use Rattle.gts_accum.proofs.UnpackingLemmas.{ahead-entry, entry_reads, entry-done, given-all, with_bad}
 

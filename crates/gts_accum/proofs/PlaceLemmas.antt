@@ -1,14 +1,9 @@
 -- What a file is read as is what the grammar says of it, and so is its bad place.
-use Rattle.std.proofs.Common.{◌≡◌, ℕ, zero, suc, ◌+◌, ◌-◌, ◌<◌, ◌≤◌, ◌⊎◌, min, Bool, true, false, not, ◌==◌, nat_lt, List, [], ◌∷◌, ◌++◌, length, take, drop, Option, Some, None, inl, inr, refl, sym, ap, subst, ◌∙◌, append_assoc, arith, flat_map}
-use Rattle.gts_accum.specs.Cited.{Begins, ENTRY_HEAD, Ends, Entry, Format, IsBadAt, IsEntry, IsFile, IsHead, IsSize, LONGEST_FILE, Reading, bad_in, badplace, begins_head, entry_text, format_in, head_seen, head_text, part_seen, place_of, read_from, reading, reading_from, size_in, with_entry}
-use Rattle.std.proofs.lemmas.Bool.{cases_lt, eq-eqb, eqb-true, ltb-true, not-true, not-false, cases_Bool, ltb-false as less}
-use Rattle.std.proofs.lemmas.List.{append-nil, length-append, take_all, length-take, length-drop, take-append-drop, take-take, drop-drop, nil_from_length}
-use Rattle.std.proofs.Math.Seq.{take-append-add}
+use Rattle.gts_accum.proofs.Cited.{◌≡◌, ℕ, zero, suc, ◌+◌, ◌-◌, ◌<◌, ◌≤◌, ◌⊎◌, min, Bool, true, false, not, ◌==◌, nat_lt, List, [], ◌∷◌, ◌++◌, length, take, drop, Option, Some, None, inl, inr, refl, sym, ap, subst, ◌∙◌, append_assoc, arith, flat_map, Begins, ENTRY_HEAD, Ends, Entry, Format, IsBadAt, IsEntry, IsFile, IsHead, IsSize, LONGEST_FILE, Reading, bad_in, badplace, begins_head, entry_text, format_in, head_seen, head_text, part_seen, place_of, read_from, reading, reading_from, size_in, with_entry, cases_lt, eq-eqb, eqb-true, ltb-true, not-true, not-false, cases_Bool, ltb-false as less, append-nil, length-append, take_all, length-take, length-drop, take-append-drop, take-take, drop-drop, nil_from_length, take-append-add, common_steps}
 use Rattle.gts_accum.proofs.FileLemmas.{first_is, good-whole, step, read-step, step-empty, step-bad, step-short, step-end, step-entry, entry_step, entry_step-cut, entry_step-whole, bad_in-within}
 use Rattle.gts_accum.proofs.WrittenLemmas.{given-head, length-head, size-head, format-head, reads-end, reads-entry}
 use Rattle.gts_accum.proofs.StreamLemmas.{head-front, front-head}
 use Rattle.gts_accum.proofs.GrammarLemmas.{regroup, same_head, uncons, cons, begins-cons, begins-uncons, nothing-begins, part-begins, front-begins, begins-front, length-entry}
-use Rattle.std.proofs.lemmas.Grind.{common_steps}
 
 -- ---- a file is read as its entries
 

@@ -1,15 +1,10 @@
 -- How the run of a file ended, by the run of the capture that it stands for.
-use Rattle.std.proofs.Common.{◌≡◌, ℕ, ◌<◌, ◌≤◌, List, [], ◌++◌, length, Option, Some, None, inl, inr, refl, sym, subst, arith}
-use Rattle.std.proofs.lemmas.List.{append-nil}
-use Rattle.gts_accum.specs.declared.end.UnpackEnd.TheVariants.{Bad}
-use Rattle.gts_accum.specs.Cited.{Directory, Ended, EndsEarly, HasFileCause, HasReplayCause, HasUnpackCause, IsEndAt, IsEndOf, IsFileEnd, IsLeft, IsPlaceMet, IsWhole, Journaled, ReplayEnd, Standing, StandsFor, Step, UnpackEnd, Unpacks, badplace, captured, readable, reading, steps_read}
-use Rattle.gts_replay.specs.Cited.{Ends, IsUnfailed}
+use Rattle.gts_accum.proofs.Cited.{◌≡◌, ℕ, ◌<◌, ◌≤◌, List, [], ◌++◌, length, Option, Some, None, inl, inr, refl, sym, subst, arith, append-nil, Bad, Directory, Ended, EndsEarly, HasFileCause, HasReplayCause, HasUnpackCause, IsEndAt, IsEndOf, IsFileEnd, IsLeft, IsPlaceMet, IsWhole, Journaled, ReplayEnd, Standing, StandsFor, Step, UnpackEnd, Unpacks, badplace, captured, readable, reading, steps_read, IsUnfailed, reads_once, early_is_none, common_steps}
+use Rattle.gts_replay.specs.Cited.{Ends}
 use Rattle.gts_event.specs.declared.event.Entry.{Entry}
 use Rattle.gts_connection.specs.Cited.{Reading}
-use Rattle.gts_connection.proofs.LawLemmas.{reads_once, early_is_none}
 use Rattle.gts_replay.specs.declared.end.ReplayEnd.TheVariants as end
 use Rattle.gts_accum.proofs.LawLemmas.{file-whole, file-early}
-use Rattle.std.proofs.lemmas.Grind.{common_steps}
 
 -- ---- the one reading of the capture
 

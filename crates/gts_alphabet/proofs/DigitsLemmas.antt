@@ -1,4 +1,5 @@
 -- Numbers in a fixed count of decimal digits, written and read again.
+use Rattle.std.proofs.lemmas.Grind.{common_steps}
 use Rattle.std.proofs.Common.{◌≡◌, ℕ, zero, suc, ◌+◌, ◌*◌, ◌/◌, ◌%◌, ◌^◌, ◌<◌, ◌≤◌, List, [], ◌∷◌, ◌++◌, true, length, get_or, drop, set, add-one, refl, sym, ◌∙◌, arith}
 use Rattle.gts_alphabet.specs.Cited.{AllDigits, dec, digit_value, digits_value, digits_value_after, is_ascii_digit, list_all}
 use Rattle.std.proofs.lemmas.Bool.{leb-true, le-leb, and_parts, and_from}
@@ -30,8 +31,7 @@ digits_value-dec (suc w) n small =
 
 -- a digit is known by its value
 same_digit : (c d : ℕ) → digit_value c < 10 → digit_value d < 10 → digit_value c ≡ digit_value d → c ≡ d
-same_digit c d small_c small_d e =
-    omega (arith, digit_value_digit c (digit_from_value c small_c), digit_value_digit d (digit_from_value d small_d))
+same_digit c d small_c small_d e = grind (arith, common_steps, digit_value_digit, digit_from_value)
 
 -- as many digits that write the same number are the same digits
 same_digits : (m n : ℕ) (cs ds : List ℕ) → AllDigits 10 cs → AllDigits 10 ds → length cs ≡ length ds → digits_value_after 10 m cs ≡ digits_value_after 10 n ds → (m ≡ n) × (cs ≡ ds)
@@ -63,23 +63,15 @@ dec-zero n = refl
 -- one more digit is written in front of those that are there
 pub dec_written : (k rest : ℕ) (digits : List ℕ) → k < length digits → dec k (rest / 10) ++ drop k (set digits k (48 + rest % 10)) ≡ dec (k + 1) rest ++ drop (k + 1) digits
 unfolding dec
-dec_written k rest digits inside =
-    let there : k < length digits = inside in
-    rw drop-set (rw add-one (sym (append_assoc (dec k (rest / 10)) ((48 + rest % 10) ∷ []) (drop (suc k) digits))))
+dec_written k rest digits inside = grind (arith, common_steps, drop-set, append_assoc)
 
 -- ---- the test for a digit
 
 is_digit_from_value : (c : ℕ) → digit_value c < 10 → is_ascii_digit c ≡ true
-is_digit_from_value c small =
-    let range = digit_from_value c small in
-    and_from _ _ (le-leb _ _ range.0) (le-leb _ _ range.1)
+is_digit_from_value c small = grind (arith, common_steps, digit_from_value, and_from, le-leb)
 
 pub value_from_is_digit : (c : ℕ) → is_ascii_digit c ≡ true → digit_value c < 10
-value_from_is_digit c e =
-    let range = and_parts _ _ e in
-    let low : 48 ≤ c = leb-true _ _ range.0 in
-    let high : c ≤ 57 = leb-true _ _ range.1 in
-    omega (arith, digit_value_digit c (low, high))
+value_from_is_digit c e = grind (arith, common_steps, and_parts, leb-true, digit_value_digit)
 
 pub AllDigits-from_test : (bytes : List ℕ) → list_all is_ascii_digit bytes ≡ true → AllDigits 10 bytes
 AllDigits-from_test [] e = tt

@@ -1,11 +1,7 @@
 -- What holds of a run under a directory that is to take over from an old one, whatever is made of the journal.
-use Rattle.std.proofs.Common.{◌≡◌, ◌≤◌, [], Option, Some, Ok, Err, inl, inr, refl, sym, ap, subst, ◌∙◌, arith}
-use Rattle.gts_app.specs.Cited.{AreRead, Change, Changed, Directory, EndsIn, Ghosts as StationMeanings, IsOldReadEnd, IsReadEnd, NoMemory, OldDirectory, OpenFault, ReadsBoth, ReadsDirectory, ReadsFew, ReadsOldDirectory, SourceMeanings, Status, Stays, TakesOver, directory_of_bytes, first_change, opens_any, refusal, seen, world}
+use Rattle.gts_app.proofs.Cited.{◌≡◌, ◌≤◌, [], Option, Some, Ok, Err, inl, inr, refl, sym, ap, subst, ◌∙◌, arith, AreRead, Change, Changed, Directory, EndsIn, Ghosts as StationMeanings, IsOldReadEnd, IsReadEnd, NoMemory, OldDirectory, OpenFault, ReadsBoth, ReadsDirectory, ReadsFew, ReadsOldDirectory, SourceMeanings, Status, Stays, TakesOver, directory_of_bytes, first_change, opens_any, refusal, seen, world, none-some, none_from, common_steps}
 use Rattle.gts_directory.specs.Directory as directories
-use Rattle.std.proofs.lemmas.Option.{none-some}
-use Rattle.gts_directory.proofs.TakingOverLemmas.{none_from}
 use Rattle.gts_app.proofs.UnreadLemmas.{fault_told, new_ended, no_fault, old_ended, only_memory, same_directory}
-use Rattle.std.proofs.lemmas.Grind.{common_steps}
 
 -- nothing of a source was read
 none_taken : {S : Type 0} (source : SourceMeanings S) (at : S) → ReadsFew source at at

@@ -1,7 +1,5 @@
 -- What `compact` comes to, from the opening and the engine's compaction.
-use Rattle.std.proofs.Common.{◌≡◌, ◌≤◌, ℕ, false, List, [], ◌∷◌, ◌++◌, Result, Ok, Err, IfErr, OnOk, Option, Some, None, IsTrue, inl, inr, refl, sym, ap, subst, ◌∙◌, arith}
-use Rattle.std.proofs.lemmas.List.{append-nil}
-use Rattle.gts_app.specs.Cited.{Call, Compacts, Device, Did, DiskFault, Done, EachSince, Engine, Full, Ghosts as StationMeanings, GivesRoom, HasCallCause, HasSaid, Holds, IsCompactFault, IsCompacted, IsCompaction, IsIdleFault, IsRefusal, IsRewritten, IsTooLarge, Keeps, Need, NoMemory, OpenFault, Opens, OpensAsBefore, OpensWith, Over, Rose, SourceMeanings, State, Status, StaysAt, StaysThere, SwitchFault, Syncs, begun, checkpoint_file, compacted_after, compacted_size, directory_of_bytes, full_compacted, handed, is_sound, need, opens, origin_of, said_by, seen, selected, shown, status_compacted, switch_meanings}
+use Rattle.gts_app.proofs.Cited.{◌≡◌, ◌≤◌, ℕ, false, List, [], ◌∷◌, ◌++◌, Result, Ok, Err, IfErr, OnOk, Option, Some, None, IsTrue, inl, inr, refl, sym, ap, subst, ◌∙◌, arith, append-nil, Call, Compacts, Device, Did, DiskFault, Done, EachSince, Engine, Full, Ghosts as StationMeanings, GivesRoom, HasCallCause, HasSaid, Holds, IsCompactFault, IsCompacted, IsCompaction, IsIdleFault, IsRefusal, IsRewritten, IsTooLarge, Keeps, Need, NoMemory, OpenFault, Opens, OpensAsBefore, OpensWith, Over, Rose, SourceMeanings, State, Status, StaysAt, StaysThere, SwitchFault, Syncs, begun, checkpoint_file, compacted_after, compacted_size, directory_of_bytes, full_compacted, handed, is_sound, need, opens, origin_of, said_by, seen, selected, shown, status_compacted, switch_meanings, syncs_silent as only_synced_says}
 use Rattle.gts_directory.specs.Directory as directories
 use Rattle.gts_event.specs.declared.fault.SwitchFault.TheVariants as switch
 use Rattle.gts_engine.specs.declared.mode.SayMode.TheVariants as mode
@@ -9,7 +7,6 @@ use Rattle.gts_app.proofs.UnreadLemmas.{same_directory}
 use Rattle.gts_app.proofs.RefusalLemmas.{fault_answered, lacks_memory, memory_alone, none_answered}
 use Rattle.gts_app.proofs.EndLemmas.{none_gathered}
 use Rattle.gts_app.proofs.ShowLemmas.{goes_on}
-use Rattle.gts_journal.proofs.LawLemmas.{syncs_silent as only_synced_says}
 
 -- ---- what refused it
 

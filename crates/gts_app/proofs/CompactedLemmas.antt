@@ -1,10 +1,5 @@
 -- The origin of an engine's history, with the compactions that were done.
-use Rattle.std.proofs.Common.{◌≡◌, ℕ, ◌+◌, ◌≤◌, List, [], ◌∷◌, ◌++◌, length, take, sym, ap, ◌∙◌, arith, append_assoc}
-use Rattle.gts_app.specs.Cited.{AllByRecursion, Entry, Ghosts as StationMeanings, ObservedOrigin, Origin, Step, begun, compacted_at, compactions, done_by, history, no_bytes, origin_behind, switch_meanings}
-use Rattle.std.proofs.lemmas.Bool.{leb-true}
-use Rattle.std.proofs.lemmas.List.{append-nil, length-take-le}
-use Rattle.gts_connection.proofs.LawLemmas.{compactions_between}
-use Rattle.std.proofs.lemmas.Grind.{common_steps}
+use Rattle.gts_app.proofs.Cited.{◌≡◌, ℕ, ◌+◌, ◌≤◌, List, [], ◌∷◌, ◌++◌, length, take, sym, ap, ◌∙◌, arith, append_assoc, AllByRecursion, Entry, Ghosts as StationMeanings, ObservedOrigin, Origin, Step, begun, compacted_at, compactions, done_by, history, no_bytes, origin_behind, switch_meanings, leb-true, append-nil, length-take-le, compactions_between, common_steps}
 
 abbrev pub AllWithin : ℕ → List ℕ → Type 0
 AllWithin n ks = AllByRecursion (λ k. k ≤ n) ks

@@ -1,8 +1,6 @@
 -- What a run of a capture through a switch that counts left, of the switch itself.
-use Rattle.std.proofs.Common.{ℕ, List, [], ◌∷◌, ◌++◌, length, inl, inr, ap}
-use Rattle.gts_app.specs.Cited.{BreaksAtCompaction, BreaksAtRestart, CaptureKind, CountedParts, Doubt, Ends, Entry, Event, IsUnbegun, OpenFault, Remains, ReplayEnd, Standing, Step, Stopped, SwitchFault, all_unsaid, compacted_at, compactions_at, entries_at, meanings_by, origin_at}
-use Rattle.gts_event.specs.declared.fault.SwitchFault.TheVariants.{DiskFault, SayFault, Full, Spent, NoMemory}
-use Rattle.gts_replay.specs.{BreaksOff, BreaksTogether, BreaksIdle}
+use Rattle.gts_app.proofs.Cited.{ℕ, List, [], ◌∷◌, ◌++◌, length, inl, inr, ap, BreaksAtCompaction, BreaksAtRestart, CaptureKind, CountedParts, Doubt, Ends, Entry, Event, IsUnbegun, OpenFault, Remains, ReplayEnd, Standing, Step, Stopped, SwitchFault, all_unsaid, compacted_at, compactions_at, entries_at, meanings_by, origin_at, SayFault, Spent, BreaksOff, BreaksTogether, BreaksIdle}
+use Rattle.gts_event.specs.declared.fault.SwitchFault.TheVariants.{DiskFault, Full, NoMemory}
 
 module _ {O T W : Type 0} (parts : W → CountedParts T) (meanings : Standing O T) (station : Type 0) (kind : CaptureKind) (o : O) (h : List Entry) (observed : Type 0) (old new : W) where
   remains : (at : O) (all : List Entry) (fault : SwitchFault) → Remains (meanings_by parts meanings) at all fault new → Remains meanings at all fault (parts new).switch

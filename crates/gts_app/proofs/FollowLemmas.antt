@@ -1,7 +1,5 @@
 -- What `follow` comes to, from the directory and what was made of the feed.
-use Rattle.std.proofs.Common.{◌≡◌, ◌⊎◌, ℕ, ◌-◌, List, [], Result, Ok, Err, inl, inr, refl, sym, ap, subst, ◌∙◌, arith}
-use Rattle.gts_app.specs.Cited.{Answers, ComesTo, Directory, EachImageReads, EachOpens, EndsAs, Files, FollowEnd, FollowedAs, FollowsFeed, Ghosts as StationMeanings, HasEndCounts, IsEnd, IsNamedEnd, IsOfFiles, IsReadEnd, LeavesAlone, LeavesUnopened, Need, NoMemory, OnlySyncs, OpenFault, Read, ReadsDirectory, RefusedBy, Rose, SourceMeanings, State, Status, TakenAs, TakesFeed, comes_to, directory_of_bytes, files_read, need, opened_of, opens, own_seals, read_after, restarted, said_by, seen, selected_bytes, state_after, status_followed, taken, world, written}
-use Rattle.gts_standby.specs.Taking.{Taken}
+use Rattle.gts_app.proofs.Cited.{◌≡◌, ◌⊎◌, ℕ, ◌-◌, List, [], Result, Ok, Err, inl, inr, refl, sym, ap, subst, ◌∙◌, arith, Answers, ComesTo, Directory, EachImageReads, EachOpens, EndsAs, Files, FollowEnd, FollowedAs, FollowsFeed, Ghosts as StationMeanings, HasEndCounts, IsEnd, IsNamedEnd, IsOfFiles, IsReadEnd, LeavesAlone, LeavesUnopened, Need, NoMemory, OnlySyncs, OpenFault, Read, ReadsDirectory, RefusedBy, Rose, SourceMeanings, State, Status, TakenAs, TakesFeed, comes_to, directory_of_bytes, files_read, need, opened_of, opens, own_seals, read_after, restarted, said_by, seen, selected_bytes, state_after, status_followed, taken, world, written, Taken}
 use Rattle.gts_directory.specs.Directory as directories
 use Rattle.gts_record.specs.declared.fault.OpenFault.TheVariants as opening
 use Rattle.gts_standby.specs.declared.end.FollowEnd.TheVariants as follow

@@ -1,13 +1,11 @@
 -- What `migrate` comes to: where a directory is refused, where a row doesn't stay, and behind the opening of the journal.
-use Rattle.std.proofs.Common.{◌≡◌, ◌≤◌, ◌⊎◌, ℕ, List, [], ◌∷◌, Option, None, Some, Result, Ok, Err, inl, inr, refl, sym, ap, subst, arith, OnOk}
-use Rattle.gts_app.specs.Cited.{AnswersOpening, AnswersWaiting, AreRead, Call, Change, Changed, Closed, CountsSays, Did, Directory, Done, Dropped, EachSince, Files, Ghosts as StationMeanings, GivesRoomFor, IsBegunUnder, IsCalm, IsDiskFaultOf, IsMigrated, IsOldReadEnd, IsReadEnd, IsRefusedBy, IsSayFaultOf, LeavesFiles, LeavesJournal, MayGo, MigrateFault, MigratedAs, Migrates, Need, NoMemory, OldDirectory, OnlySyncs, OpenFault, Opened, OpensEither, Outside, ReadsBoth, ReadsDirectory, ReadsOldDirectory, Refused, RefusesWaiting, Rose, SaidSince, SaysFor, SaysFrontSince, SourceMeanings, State, Status, SwitchFault, Syncs, TakesOver, Waiting, WasOpened, files_open_any, first_change, full_compacted, need, opens_any, refusal, restarted, said_by, sayings, seen, status_migrated, waits_on_closed, world}
+use Rattle.gts_app.proofs.Cited.{◌≡◌, ◌≤◌, ◌⊎◌, ℕ, List, [], ◌∷◌, Option, None, Some, Result, Ok, Err, inl, inr, refl, sym, ap, subst, arith, OnOk, AnswersOpening, AnswersWaiting, AreRead, Call, Change, Changed, Closed, CountsSays, Did, Directory, Done, Dropped, EachSince, Files, Ghosts as StationMeanings, GivesRoomFor, IsBegunUnder, IsCalm, IsDiskFaultOf, IsMigrated, IsOldReadEnd, IsReadEnd, IsRefusedBy, IsSayFaultOf, LeavesFiles, LeavesJournal, MayGo, MigrateFault, MigratedAs, Migrates, Need, NoMemory, OldDirectory, OnlySyncs, OpenFault, Opened, OpensEither, Outside, ReadsBoth, ReadsDirectory, ReadsOldDirectory, Refused, RefusesWaiting, Rose, SaidSince, SaysFor, SaysFrontSince, SourceMeanings, State, Status, SwitchFault, Syncs, TakesOver, Waiting, WasOpened, files_open_any, first_change, full_compacted, need, opens_any, refusal, restarted, said_by, sayings, seen, status_migrated, waits_on_closed, world, common_steps}
 use Rattle.gts_migrate.specs.LettingGo.{goes_on}
 use Rattle.gts_directory.specs.Directory as directories
 use Rattle.gts_record.specs.declared.fault.OpenFault.TheVariants as opening
 use Rattle.gts_migrate.specs.declared.fault.MigrateFault.TheVariants as fault
 use Rattle.gts_app.proofs.UnreadLemmas.{by_end, new_ended, old_ended}
 use Rattle.gts_app.proofs.BothLemmas.{apart_from, both_changed, both_old_unread, both_stay, both_unread, new_is, new_memory, old_is, old_memory, read_both}
-use Rattle.std.proofs.lemmas.Grind.{common_steps}
 
 -- ---- a directory was not read, or a row doesn't stay
 

@@ -1,13 +1,10 @@
 -- Where `serve` was done, no device of the station failed under it.
-use Rattle.std.proofs.Common.{◌≡◌, ℕ, ◌+◌, List, [], ◌∷◌, Option, None, Some, refl, sym, subst}
-use Rattle.gts_app.specs.Cited.{Beginning, Done, Engine, Entry, Ghosts as StationMeanings, IsServed, Known, LinesSeen, ReceiveEnd, SendEnd, ServeEnd, SourceMeanings, SwitchFault, first_fault, receiver_first, sender_first, status_of_fault, status_served}
+use Rattle.gts_app.proofs.Cited.{◌≡◌, ℕ, ◌+◌, List, [], ◌∷◌, Option, None, Some, refl, sym, subst, Beginning, Done, Engine, Entry, Ghosts as StationMeanings, IsServed, Known, LinesSeen, ReceiveEnd, SendEnd, ServeEnd, SourceMeanings, SwitchFault, first_fault, receiver_first, sender_first, status_of_fault, status_served, common_steps, arith}
 use Rattle.gts_event.specs.declared.fault.Device.TheVariants.{Say}
 use Rattle.gts_event.specs.declared.fault.SwitchFault.TheVariants as switch
 use Rattle.gts_receiver.specs.declared.end.ReceiveEnd.TheVariants as received
 use Rattle.gts_sender.specs.declared.end.SendEnd.TheVariants as sent
 use Rattle.gts_circuits.specs.declared.service.end.ServeEnd.TheVariants as serving
-use Rattle.std.proofs.lemmas.Grind.{common_steps}
-use Rattle.std.proofs.Common.{arith}
 
 -- ---- a run of circuits whose status is that it was done has no fault
 

@@ -1,10 +1,8 @@
 -- What `ship` comes to, from the directory and the feed.
-use Rattle.std.proofs.Common.{◌≡◌, ℕ, List, Option, Result, Ok, Err, inl, inr, refl, arith, IfErr, OnOk}
-use Rattle.gts_app.specs.Cited.{AsksToShip, Call, Directory, Ghosts as StationMeanings, IsNamed, IsReadEnd, IsShipFault, NoMemory, OnlySyncsUnopened, ReadsDirectory, SaysFrontSynced, ShipFault, ShippedAs, ShipsFeed, ShipsOnly, Since, SourceMeanings, Status, asked_of, seen, status_shipped}
+use Rattle.gts_app.proofs.Cited.{◌≡◌, ℕ, List, Option, Result, Ok, Err, inl, inr, refl, arith, IfErr, OnOk, AsksToShip, Call, Directory, Ghosts as StationMeanings, IsNamed, IsReadEnd, IsShipFault, NoMemory, OnlySyncsUnopened, ReadsDirectory, SaysFrontSynced, ShipFault, ShippedAs, ShipsFeed, ShipsOnly, Since, SourceMeanings, Status, asked_of, seen, status_shipped, common_steps}
 use Rattle.gts_directory.specs.Directory as directories
 use Rattle.gts_app.proofs.UnreadLemmas.{by_end, new_ended, same_directory}
 use Rattle.gts_app.proofs.ShowLemmas.{unchanged}
-use Rattle.std.proofs.lemmas.Grind.{common_steps}
 
 -- nothing was begun
 pub unread : {S P : Type 0} (since : Option Since) (source : SourceMeanings S) (station : StationMeanings P) (od : S) (at : P) → ShipsFeed since source station NoMemory od at od at

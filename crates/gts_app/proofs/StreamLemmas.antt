@@ -1,11 +1,9 @@
 -- What the commands come to that read a stream or a capture and use no journal.
-use Rattle.std.proofs.Common.{◌≡◌, ℕ, Ok, Err, inl, inr, refl, ap, arith}
-use Rattle.gts_app.specs.Cited.{CountsPack, Directory, GapsEnd, Ghosts as StationMeanings, HasGapsCause, IsReadEnd, KeepsFiles, Moment, NamedAs, Names, NamesGaps, PackEnd, PackedAs, Packs, PacksStream, ReadsDirectory, SameFiles, SourceMeanings, Status, seen, status_named, status_packed, world}
+use Rattle.gts_app.proofs.Cited.{◌≡◌, ℕ, Ok, Err, inl, inr, refl, ap, arith, CountsPack, Directory, GapsEnd, Ghosts as StationMeanings, HasGapsCause, IsReadEnd, KeepsFiles, Moment, NamedAs, Names, NamesGaps, PackEnd, PackedAs, Packs, PacksStream, ReadsDirectory, SameFiles, SourceMeanings, Status, seen, status_named, status_packed, world, common_steps}
 use Rattle.gts_directory.specs.Directory as directories
 use Rattle.gts_app.proofs.UnreadLemmas.{by_end, new_ended}
 use Rattle.gts_accum.specs.declared.pack_end.PackEnd.TheVariants as packs
 use Rattle.gts_gap.specs.declared.fault.GapsEnd.TheVariants as gaps
-use Rattle.std.proofs.lemmas.Grind.{common_steps}
 
 -- ---- where there is no directory
 

@@ -1,6 +1,5 @@
 -- What `count` comes to, from the opening, the run of the capture and the saying of the table.
-use Rattle.std.proofs.Common.{◌≡◌, ℕ, ◌≤◌, List, [], ◌∷◌, length, Result, Ok, Err, IsTrue, inl, inr, refl, sym, ap, subst, ◌∙◌, arith}
-use Rattle.gts_app.specs.Cited.{Behind, Breaks, CountedParts, CountsEngine, CountsTraffic, Did, Done, Ends, EndsWithoutTable, Engine, Entry, Failed, Files, Ghosts as StationMeanings, HasCause, HasReplayCause, IsRefusal, KeepsLaws, Need, NoMemory, ObservedOrigin, Opens, OpensWith, Origin, OutputFault, ReplayEnd, Replays, Rose, Says, SaysTable, ShowsTable, SourceMeanings, StandsFor, Status, Traffic, Tries, World, after_all, begun, compacted_at, counted, handed, history, is_sound, keeps_one, meanings_by, need, origin_of, seen, status_of, status_said, switch_meanings, table, table_behind, used_at, world}
+use Rattle.gts_app.proofs.Cited.{◌≡◌, ℕ, ◌≤◌, List, [], ◌∷◌, length, Result, Ok, Err, IsTrue, inl, inr, refl, sym, ap, subst, ◌∙◌, arith, Behind, Breaks, CountedParts, CountsEngine, CountsTraffic, Did, Done, Ends, EndsWithoutTable, Engine, Entry, Failed, Files, Ghosts as StationMeanings, HasCause, HasReplayCause, IsRefusal, KeepsLaws, Need, NoMemory, ObservedOrigin, Opens, OpensWith, Origin, OutputFault, ReplayEnd, Replays, Rose, Says, SaysTable, ShowsTable, SourceMeanings, StandsFor, Status, Traffic, Tries, World, after_all, begun, compacted_at, counted, handed, history, is_sound, keeps_one, meanings_by, need, origin_of, seen, status_of, status_said, switch_meanings, table, table_behind, used_at, world}
 use Rattle.gts_directory.specs.Directory as directories
 use Rattle.gts_replay.specs.declared.end.ReplayEnd.TheVariants as end
 use Rattle.gts_app.proofs.CompactedLemmas.{compacted_is, counts, counts_within}

@@ -1,6 +1,5 @@
 -- What `migrate check` comes to: where a directory is refused, where a row doesn't stay, and behind the trial of the journal.
-use Rattle.std.proofs.Common.{◌≡◌, ◌≢◌, ◌≤◌, ◌⊎◌, ℕ, List, ◌∷◌, Some, Result, Ok, Err, inl, inr, refl, sym, ap, subst, ◌∙◌, arith}
-use Rattle.gts_app.specs.Cited.{AreRead, Breaks, Call, Change, Changed, Did, Directory, Done, Files, Ghosts as StationMeanings, IsAnswer, IsCalm, IsOldReadEnd, IsReadEnd, Need, NoMemory, OldDirectory, OnlySyncs, OpenFault, OutputFault, ReadsBoth, ReadsDirectory, ReadsOldDirectory, Rose, Says, SourceMeanings, State, Status, Syncs, TakesOver, Tried, TriedAs, TriesMigration, changes, files_open_any, first_change, need, opens_any, refusal, restarted, seen, world}
+use Rattle.gts_app.proofs.Cited.{◌≡◌, ◌≢◌, ◌≤◌, ◌⊎◌, ℕ, List, ◌∷◌, Some, Result, Ok, Err, inl, inr, refl, sym, ap, subst, ◌∙◌, arith, AreRead, Breaks, Call, Change, Changed, Did, Directory, Done, Files, Ghosts as StationMeanings, IsAnswer, IsCalm, IsOldReadEnd, IsReadEnd, Need, NoMemory, OldDirectory, OnlySyncs, OpenFault, OutputFault, ReadsBoth, ReadsDirectory, ReadsOldDirectory, Rose, Says, SourceMeanings, State, Status, Syncs, TakesOver, Tried, TriedAs, TriesMigration, changes, files_open_any, first_change, need, opens_any, refusal, restarted, seen, world, common_steps}
 use Rattle.gts_directory.specs.Directory as directories
 use Rattle.gts_record.specs.declared.fault.OpenFault.TheVariants as opening
 use Rattle.gts_app.proofs.UnreadLemmas.{by_end, new_ended, old_ended}
@@ -8,7 +7,6 @@ use Rattle.gts_app.proofs.BothLemmas.{apart_from, both_changed, both_old_unread,
 use Rattle.gts_app.proofs.ShowLemmas.{unchanged}
 use Rattle.gts_app.proofs.GenerateLemmas.{as_seen}
 use Rattle.gts_app.proofs.MigrateLemmas.{need_of, two_answers, one_open}
-use Rattle.std.proofs.lemmas.Grind.{common_steps}
 
 -- ---- nothing was read, or a row doesn't stay
 

@@ -1,6 +1,5 @@
 -- What each end of a file's run means for the command.
-use Rattle.std.proofs.Common.{◌≡◌, ℕ, ◌<◌, ◌≤◌, List, [], length, Ok, Err, IsTrue, inl, inr, refl, sym, ap, subst, arith}
-use Rattle.gts_app.specs.Cited.{Bad, Capture, Directory, Done, Ended, EndsIn, Engine, Entry, Feed, File, Ghosts as StationMeanings, HasNoCircuit, HasReplayCause, HasUnpackCause, InputFault, IsEndAt, IsEndOf, IsLeft, IsReadEnd, IsRefusal, IsStatusOf, IsUnfailed, IsUnfailedFile, Journaled, KeepsLaws, Need, NoMemory, Opens, OtherFeed, ReadsDirectory, ReplayEnd, SourceMeanings, Status, Stays, UnpackEnd, Unpacks, Usage, badplace, capture_meanings, captured, directory_of_bytes, handed, is_sound, keeps_one, origin_of, status_of, status_unpacked, switch_meanings, unpacked, world}
+use Rattle.gts_app.proofs.Cited.{◌≡◌, ℕ, ◌<◌, ◌≤◌, List, [], length, Ok, Err, IsTrue, inl, inr, refl, sym, ap, subst, arith, Bad, Capture, Directory, Done, Ended, EndsIn, Engine, Entry, Feed, File, Ghosts as StationMeanings, HasNoCircuit, HasReplayCause, HasUnpackCause, InputFault, IsEndAt, IsEndOf, IsLeft, IsReadEnd, IsRefusal, IsStatusOf, IsUnfailed, IsUnfailedFile, Journaled, KeepsLaws, Need, NoMemory, Opens, OtherFeed, ReadsDirectory, ReplayEnd, SourceMeanings, Status, Stays, UnpackEnd, Unpacks, Usage, badplace, capture_meanings, captured, directory_of_bytes, handed, is_sound, keeps_one, origin_of, status_of, status_unpacked, switch_meanings, unpacked, world, common_steps}
 use Rattle.gts_accum.specs.Unpack.{Unpacks as Runs}
 use Rattle.gts_directory.specs.Directory as directories
 use Rattle.gts_event.specs.declared.fault.SwitchFault.TheVariants as switch
@@ -11,7 +10,6 @@ use Rattle.gts_app.proofs.OpeningLemmas.{no_directory}
 use Rattle.gts_app.proofs.RefusalLemmas.{refused, out_of_memory}
 use Rattle.gts_app.proofs.UnreadLemmas.{new_ended, only_memory, same_directory}
 use Rattle.gts_app.proofs.ReplayLemmas.{replays}
-use Rattle.std.proofs.lemmas.Grind.{common_steps}
 
 -- ---- a status by that of the capture's replay
 

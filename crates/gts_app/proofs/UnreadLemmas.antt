@@ -1,6 +1,5 @@
 -- Where a directory was not read.
-use Rattle.std.proofs.Common.{◌≡◌, ◌⊎◌, Result, Ok, Err, inl, inr, refl, sym, ap, subst}
-use Rattle.gts_app.specs.Cited.{DirFault, Directory, EndsIn, InputFault, IsOldReadEnd, IsReadEnd, NoMemory, OldDirectory, ReadsAs, Rose, SourceMeanings, Status, Stays, directory_of_bytes}
+use Rattle.gts_app.proofs.Cited.{◌≡◌, ◌⊎◌, Result, Ok, Err, inl, inr, refl, sym, ap, subst, DirFault, Directory, EndsIn, InputFault, IsOldReadEnd, IsReadEnd, NoMemory, OldDirectory, ReadsAs, Rose, SourceMeanings, Status, Stays, directory_of_bytes}
 use Rattle.gts_directory.specs.Directory as directories
 
 -- bytes say one directory

@@ -1,8 +1,5 @@
 -- Several messages of a feed, one behind another.
-use Rattle.std.proofs.Common.{◌≡◌, ℕ, List, [], ◌∷◌, ◌++◌, sym, ap, subst, ◌∙◌}
-use Rattle.std.proofs.lemmas.List.{append-nil, append_assoc}
-use Rattle.gts_calls.specs.Cited.{All, BreaksFed, BreaksIdle, BreaksLast, BreaksOff, BreaksSoon, DiskFault, Doubt, Entry, Event, Fault, FeedEnd, Full, Goes, GoesFed, Idle, IsCause, NoMemory, SayFault, Spent, Standing, Stands, Stopped, SwitchFault, Wanting, all_done, all_unsaid, answer_of, outcome_at, settled}
-use Rattle.gts_calls.specs.declared.fed.FeedEnd.TheVariants.{Lost}
+use Rattle.gts_calls.proofs.Cited.{◌≡◌, ℕ, List, [], ◌∷◌, ◌++◌, sym, ap, subst, ◌∙◌, append-nil, append_assoc, All, BreaksFed, BreaksIdle, BreaksLast, BreaksOff, BreaksSoon, DiskFault, Doubt, Entry, Event, Fault, FeedEnd, Full, Goes, GoesFed, Idle, IsCause, NoMemory, SayFault, Spent, Standing, Stands, Stopped, SwitchFault, Wanting, all_done, all_unsaid, answer_of, outcome_at, settled, Lost}
 use Rattle.gts_event.specs.declared.event.Event.TheVariants as event
 use Rattle.gts_calls.proofs.GoingLemmas.{all_done-append, stands_same}
 

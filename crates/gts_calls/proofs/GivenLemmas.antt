@@ -1,9 +1,5 @@
 -- Frames in one buffer, one by one.
-use Rattle.std.proofs.Common.{◌≡◌, ◌≤◌, ◌+◌, ℕ, zero, suc, List, [], ◌∷◌, ◌++◌, length, take, drop, Some, sym, ap, ◌∙◌, arith, length-drop, slice_get}
-use Rattle.gts_calls.specs.Cited.{Frame, Placed, frames_in, no_frame, sizes_of, slice_index_or}
-use Rattle.std.proofs.lemmas.List.{take-append-le, drop-append-le, take_all, take_at, length-take-le, take-take, drop-take, drop-drop, nil_from_length}
-use Rattle.std.proofs.lemmas.List.Sums.{sum_by-cons, sum_by-take-le}
-use Rattle.std.proofs.lemmas.Grind.{common_steps}
+use Rattle.gts_calls.proofs.Cited.{◌≡◌, ◌≤◌, ◌+◌, ℕ, zero, suc, List, [], ◌∷◌, ◌++◌, length, take, drop, Some, sym, ap, ◌∙◌, arith, length-drop, slice_get, Frame, Placed, frames_in, no_frame, sizes_of, slice_index_or, take-append-le, drop-append-le, take_all, take_at, length-take-le, take-take, drop-take, drop-drop, nil_from_length, sum_by-cons, sum_by-take-le, common_steps}
 
 -- the size of one, and those of the others
 sizes_cons : (s : Placed) (each : List Placed) → sizes_of (s ∷ each) ≡ s.size + sizes_of each

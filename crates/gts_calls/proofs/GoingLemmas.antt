@@ -1,8 +1,5 @@
 -- Entries that are added to those for which a switch stands, one after another.
-use Rattle.std.proofs.Common.{◌≡◌, ℕ, ◌≤◌, ◌⊎◌, inl, inr, List, [], ◌∷◌, ◌++◌, length, Result, Ok, Err, refl, sym, ap, subst, ◌∙◌, arith, length-append, IsErrAnd, MatchResult}
-use Rattle.std.proofs.lemmas.List.{append-nil, append_assoc, map-append}
-use Rattle.std.proofs.lemmas.Result.{err_from_is_err_and}
-use Rattle.gts_calls.specs.Cited.{AfterCall, AfterSettling, Alone, AtOnce, Behind, BreaksIdle, BreaksOff, BreaksSoon, BreaksTogether, Directory, DiskFault, Done, Doubt, Entry, Event, Full, GathersOne, Goes, Idle, IsAnswerCause, IsAnswered, IsCause, IsCutShort, IsInDoubt, IsOneMore, IsSettling, MOST_TOGETHER, NoMemory, Outcome, SayFault, Spent, Standing, Stands, Stopped, SwitchFault, Unsaid, after_all, all_done, all_unsaid, outcome, outcome_at, settled}
+use Rattle.gts_calls.proofs.Cited.{◌≡◌, ℕ, ◌≤◌, ◌⊎◌, inl, inr, List, [], ◌∷◌, ◌++◌, length, Result, Ok, Err, refl, sym, ap, subst, ◌∙◌, arith, length-append, IsErrAnd, MatchResult, append-nil, append_assoc, map-append, err_from_is_err_and, AfterCall, AfterSettling, Alone, AtOnce, Behind, BreaksIdle, BreaksOff, BreaksSoon, BreaksTogether, Directory, DiskFault, Done, Doubt, Entry, Event, Full, GathersOne, Goes, Idle, IsAnswerCause, IsAnswered, IsCause, IsCutShort, IsInDoubt, IsOneMore, IsSettling, MOST_TOGETHER, NoMemory, Outcome, SayFault, Spent, Standing, Stands, Stopped, SwitchFault, Unsaid, after_all, all_done, all_unsaid, outcome, outcome_at, settled}
 
 -- what was answered, by what `map_err` made of it
 pub mapped_ok : {T E D : Type 0} (r : Result T E) (mapped : Result T D) (Q : E → D → Type 0) (x : T) → MatchResult r (λ y. mapped ≡ Ok y) (λ e. IsErrAnd mapped (Q e)) → mapped ≡ Ok x → r ≡ Ok x

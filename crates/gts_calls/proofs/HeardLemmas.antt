@@ -1,7 +1,5 @@
 -- One message or loss more, behind what a switch stands for.
-use Rattle.std.proofs.Common.{◌≡◌, ℕ, ◌≤◌, ◌⊎◌, inl, inr, List, [], ◌∷◌, ◌++◌, length, Result, Ok, Err, refl, sym, subst, ◌∙◌, arith}
-use Rattle.std.proofs.lemmas.List.{append-nil}
-use Rattle.gts_calls.specs.Cited.{AfterCall, AfterHearing, BreaksLast, BreaksSoon, DiskFault, Done, Doubt, Entry, Event, FrameField, Full, GoesFed, Idle, IsAnswerCause, IsAnswered, IsCause, IsCutShort, IsHeard, IsInDoubt, Kind, NoMemory, Outcome, SayFault, Spent, Standing, Stands, Stopped, SwitchFault, Unsaid, all_done, all_unsaid, end_heard, end_lost, outcome_at, settled}
+use Rattle.gts_calls.proofs.Cited.{◌≡◌, ℕ, ◌≤◌, ◌⊎◌, inl, inr, List, [], ◌∷◌, ◌++◌, length, Result, Ok, Err, refl, sym, subst, ◌∙◌, arith, append-nil, AfterCall, AfterHearing, BreaksLast, BreaksSoon, DiskFault, Done, Doubt, Entry, Event, FrameField, Full, GoesFed, Idle, IsAnswerCause, IsAnswered, IsCause, IsCutShort, IsHeard, IsInDoubt, Kind, NoMemory, Outcome, SayFault, Spent, Standing, Stands, Stopped, SwitchFault, Unsaid, all_done, all_unsaid, end_heard, end_lost, outcome_at, settled}
 use Rattle.gts_event.specs.declared.event.Event.TheVariants as event
 use Rattle.gts_calls.proofs.GoingLemmas.{within_all, cause_at, doubt_soon, few_one, one_more, short_soon}
 

@@ -1,10 +1,7 @@
 -- Entries under a name, their frames, and a desk's calls one after another.
-use Rattle.std.proofs.Common.{◌≡◌, ℕ, ◌+◌, ◌==◌, List, [], ◌∷◌, ◌++◌, inl, inr, true, cond, refl, sym, ap, ◌∙◌, subst, arith, append_assoc}
-use Rattle.gts_calls.specs.Cited.{AddsAll, AddsAny, AddsEntries, Directory, Entry, GoesOn, IsSpent, PassesBetween, Seen, StartsWith, State, after_all, after_entry, begun, entries, entries_under, frame_of, frames, own, own_frames, state_at, under}
-use Rattle.std.proofs.lemmas.List.{append-nil}
-use Rattle.std.proofs.lemmas.List.Elements.{filter-append}
+use Rattle.gts_calls.proofs.Cited.{◌≡◌, ℕ, ◌+◌, ◌==◌, List, [], ◌∷◌, ◌++◌, inl, inr, true, cond, refl, sym, ap, ◌∙◌, subst, arith, AddsAll, AddsAny, AddsEntries, Directory, Entry, GoesOn, IsSpent, PassesBetween, Seen, StartsWith, State, after_all, after_entry, begun, entries, entries_under, frame_of, frames, own, own_frames, state_at, under, append-nil, filter-append, common_steps}
+use Rattle.std.proofs.Common.{append_assoc}
 use mathlib.Core.List.{map-append}
-use Rattle.std.proofs.lemmas.Grind.{common_steps}
 
 abbrev History : Type 0
 History = List (ℕ × Entry)

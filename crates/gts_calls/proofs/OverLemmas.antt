@@ -1,12 +1,9 @@
 -- A feed goes on, step by step.
-use Rattle.std.proofs.Common.{◌≡◌, ℕ, ◌≤◌, true, List, ◌++◌, Result, Ok, refl, ap, subst, ◌∙◌, arith, append_assoc}
-use Rattle.gts_calls.specs.Cited.{All, Decoding, EndsAt, EndsOver, EndsStep, Entry, Event, Fault, FeedEnd, GoesFed, GoesOver, HasCallCause, IsNoLoss, KeepsOver, Reads, Rose, Standing, Stands, Step, SwitchFault, Wanting, all_done, events_added, events_of_signs, held_in, is_all, signs_of_step}
-use Rattle.gts_calls.specs.declared.fed.FeedEnd.TheVariants.{Lost}
+use Rattle.gts_calls.proofs.Cited.{◌≡◌, ℕ, ◌≤◌, true, List, ◌++◌, Result, Ok, refl, ap, subst, ◌∙◌, arith, All, Decoding, EndsAt, EndsOver, EndsStep, Entry, Event, Fault, FeedEnd, GoesFed, GoesOver, HasCallCause, IsNoLoss, KeepsOver, Reads, Rose, Standing, Stands, Step, SwitchFault, Wanting, all_done, events_added, events_of_signs, held_in, is_all, signs_of_step, Lost, added-twice, common_steps}
+use Rattle.std.proofs.Common.{append_assoc}
 use Rattle.gts_frame.specs.declared.step.Step.TheVariants as steps
-use Rattle.gts_connection.proofs.LawLemmas.{added-twice}
 use Rattle.gts_calls.proofs.FedLemmas.{fed_behind}
 use Rattle.gts_calls.proofs.ReadingLemmas.{ends_behind}
-use Rattle.std.proofs.lemmas.Grind.{common_steps}
 
 kept : (before bytes : List ℕ) (step : Step) → IsNoLoss step → EndsAt before bytes step → KeepsOver before bytes
 kept before bytes steps.More none e = e

@@ -1,12 +1,7 @@
 -- The steps of a decoder up to the next event.
-use Rattle.std.proofs.Common.{◌≡◌, ℕ, ◌+◌, ◌-◌, ◌<◌, ◌≤◌, Bool, true, false, ◌&&◌, not, List, [], ◌∷◌, ◌++◌, length, take, drop, Option, Some, None, refl, sym, ap, ◌∙◌, subst, arith, append_assoc, length-drop, IsSome, IfSome, IfNone}
-use Rattle.std.proofs.lemmas.List.{append-nil, take_all, length-take-le}
-use Rattle.std.proofs.Math.Seq.{take-add}
-use Rattle.gts_calls.specs.Cited.{Decoding, EndsAt, FrameField, IsPartial, IsStreamFront, KeepsOver, LosesLast, Makes, Reads, ReadsOn, Step, after_step, events_of_signs, held_in, is_event, is_front, is_part, piece_text, signs_of_step}
+use Rattle.gts_calls.proofs.Cited.{◌≡◌, ℕ, ◌+◌, ◌-◌, ◌<◌, ◌≤◌, Bool, true, false, ◌&&◌, not, List, [], ◌∷◌, ◌++◌, length, take, drop, Option, Some, None, refl, sym, ap, ◌∙◌, subst, arith, length-drop, IsSome, IfSome, IfNone, append-nil, take_all, length-take-le, take-add, Decoding, EndsAt, FrameField, IsPartial, IsStreamFront, KeepsOver, LosesLast, Makes, Reads, ReadsOn, Step, after_step, events_of_signs, held_in, is_event, is_front, is_part, piece_text, signs_of_step, reads-open, front-open, part-is, added-twice, added-signs, common_steps}
+use Rattle.std.proofs.Common.{append_assoc}
 use Rattle.gts_frame.specs.declared.step.Step.TheVariants as steps
-use Rattle.gts_frame.proofs.LawLemmas.{reads-open, front-open, part-is}
-use Rattle.gts_connection.proofs.LawLemmas.{added-twice, added-signs}
-use Rattle.std.proofs.lemmas.Grind.{common_steps}
 
 and_first : (a b : Bool) → a && b ≡ true → a ≡ true
 and_first true b h = refl

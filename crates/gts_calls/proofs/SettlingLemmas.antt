@@ -1,11 +1,7 @@
 -- What a feed gathered is settled.
-use Rattle.std.proofs.Common.{◌≡◌, ℕ, ◌≤◌, true, false, List, [], ◌∷◌, ◌++◌, length, Ok, Err, refl, sym, ap, subst, ◌∙◌, arith}
-use Rattle.std.proofs.lemmas.List.{append-nil, append_assoc, length-map}
-use Rattle.gts_calls.specs.Cited.{AddsAtFault, AddsFed, AfterSettling, All, BreaksFed, BreaksLast, BreaksSoon, DiskFault, Done, Doubt, Entry, Event, Fault, FeedEnd, Full, GoesFed, Idle, IsSettling, LeavesLast, NoMemory, SayFault, SettlesFed, Spent, Standing, Stands, Stopped, SwitchFault, TurnsTogether, Wanting, all_done, all_unsaid, is_done, settled}
-use Rattle.gts_calls.specs.declared.fed.FeedEnd.TheVariants.{Lost}
+use Rattle.gts_calls.proofs.Cited.{◌≡◌, ℕ, ◌≤◌, true, false, List, [], ◌∷◌, ◌++◌, length, Ok, Err, refl, sym, ap, subst, ◌∙◌, arith, append-nil, append_assoc, length-map, AddsAtFault, AddsFed, AfterSettling, All, BreaksFed, BreaksLast, BreaksSoon, DiskFault, Done, Doubt, Entry, Event, Fault, FeedEnd, Full, GoesFed, Idle, IsSettling, LeavesLast, NoMemory, SayFault, SettlesFed, Spent, Standing, Stands, Stopped, SwitchFault, TurnsTogether, Wanting, all_done, all_unsaid, is_done, settled, Lost, shorter_front}
 use Rattle.gts_event.specs.declared.event.Event.TheVariants as event
 use Rattle.gts_calls.proofs.GoingLemmas.{doubt_soon, settles_all, short_soon}
-use Rattle.gts_opening.proofs.LawLemmas.{shorter_front}
 
 -- ---- parts of lists
 

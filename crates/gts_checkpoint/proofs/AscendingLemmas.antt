@@ -1,9 +1,7 @@
 -- Numbers that ascend, and what is found among them.
-use Rattle.std.proofs.Common.{◌≡◌, ◌≢◌, ℕ, zero, suc, ◌+◌, ◌<◌, ◌≤◌, true, false, ◌⊎◌, inl, inr, nat_lt, List, [], ◌∷◌, length, get_or, refl, arith}
-use Rattle.gts_checkpoint.specs.Cited.{ascends, positions}
+use Rattle.gts_checkpoint.proofs.Cited.{◌≡◌, ◌≢◌, ℕ, zero, suc, ◌+◌, ◌<◌, ◌≤◌, true, false, ◌⊎◌, inl, inr, nat_lt, List, [], ◌∷◌, length, get_or, refl, arith, ascends, and_parts, and_from, false_from_ne_true, ltb-true, lt-ltb, cases_lt, common_steps}
+use Rattle.gts_checkpoint.specs.Cited.{positions}
 use Rattle.gts_event.specs.declared.values.Bulletin.{Bulletin}
-use Rattle.std.proofs.lemmas.Bool.{and_parts, and_from, false_from_ne_true, ltb-true, lt-ltb, cases_lt}
-use Rattle.std.proofs.lemmas.Grind.{common_steps}
 
 pub rises : (xs : List ℕ) (i j : ℕ) → ascends xs ≡ true → i < j → j < length xs → get_or xs i 0 < get_or xs j 0
 rises [] i j h l m = absurd (omega arith)

@@ -1,9 +1,5 @@
 -- What is read of a checkpoint that stands in no file.
-use Rattle.std.proofs.lemmas.Grind.{common_steps}
-use Rattle.std.proofs.Common.{◌≡◌, ℕ, zero, suc, ◌+◌, ◌-◌, ◌≤◌, min, List, [], ◌∷◌, ◌++◌, length, take, drop, refl, sym, ap, ◌∙◌, arith, length-append}
-use Rattle.std.proofs.Math.Seq.{drop-nil, drop-append-add}
-use Rattle.std.proofs.lemmas.List.{append-nil, take_at, length-take}
-use Rattle.gts_checkpoint.specs.Cited.{in_front, laid, seen}
+use Rattle.gts_checkpoint.proofs.Cited.{common_steps, ◌≡◌, ℕ, zero, suc, ◌+◌, ◌-◌, ◌≤◌, min, List, [], ◌∷◌, ◌++◌, length, take, drop, refl, sym, ap, ◌∙◌, arith, length-append, drop-nil, drop-append-add, append-nil, take_at, length-take, in_front, laid, seen}
 
 pub length-in_front : length in_front ≡ 41
 unfolding in_front

@@ -1,13 +1,6 @@
 -- Whether bytes that stand in no file are a checkpoint.
-use Rattle.std.proofs.lemmas.Grind.{common_steps}
-use Rattle.std.proofs.Common.{◌≡◌, ℕ, ◌+◌, ◌-◌, ◌*◌, ◌^◌, ◌<◌, false, List, [], ◌∷◌, ◌++◌, length, Option, None, sym, ap, subst, ◌∙◌, arith, length-append}
-use Rattle.std.proofs.lemmas.Bool.{false≢true}
-use Rattle.std.proofs.lemmas.List.{append-nil}
-use Rattle.gts_checkpoint.specs.Cited.{BeginsWith, CanBegin, Directory, FindsText, FitsNeed, IsCheckpoint, Version, bytes_from, checkpoint_text, draw_size, first_of, is_sound, laid, need_of, seal_size}
-use Rattle.gts_event.specs.declared.values.Need.{Need}
+use Rattle.gts_checkpoint.proofs.Cited.{common_steps, ◌≡◌, ℕ, ◌+◌, ◌-◌, ◌*◌, ◌^◌, ◌<◌, false, List, [], ◌∷◌, ◌++◌, length, Option, None, sym, ap, subst, ◌∙◌, arith, length-append, false≢true, append-nil, BeginsWith, CanBegin, Directory, FindsText, FitsNeed, IsCheckpoint, Version, bytes_from, checkpoint_text, draw_size, first_of, is_sound, laid, need_of, seal_size, Need, sound-parts, fits-sound}
 use Rattle.gts_event.specs.Need as needs
-use Rattle.gts_event.proofs.LawLemmas.{sound-parts}
-use Rattle.gts_opening.proofs.FileLemmas.{fits-sound}
 use Rattle.gts_checkpoint.proofs.CheckpointBytesLemmas.{behind-in_front}
 use Rattle.gts_checkpoint.proofs.ReadLemmas.{Stands, Counted, need_read, fit_bodies, over_limit}
 

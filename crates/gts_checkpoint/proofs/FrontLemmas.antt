@@ -1,32 +1,13 @@
 -- A checkpoint as it is read: its first bytes, its bulletins and its circuits.
-use Rattle.std.proofs.lemmas.Grind.{common_steps}
-use Rattle.std.proofs.Common.{◌≡◌, ℕ, zero, suc, ◌+◌, ◌^◌, ◌<◌, ◌≤◌, List, [], ◌∷◌, ◌++◌, length, map, take, drop, flat_map, refl, sym, ap, ◌∙◌, arith, append_assoc}
-use Rattle.gts_checkpoint.specs.Cited.{AllByRecursion, BeginsWith, Bulletin, FitBodies, FitsBulletin, FitsCircuit, FitsNeed, FitsValue, FitsValueCircuit, bulletin_of, bulletin_text, bytes_of, checkpoint_text, circuit_need_of, circuit_text, head_text, need_of, number_in, unowed, unowed_circuit, written_bulletin, written_circuit}
-use Rattle.gts_event.specs.declared.values.Need.{Need}
-use Rattle.std.proofs.lemmas.List.{length-map}
+use Rattle.gts_checkpoint.proofs.Cited.{common_steps, ◌≡◌, ℕ, ◌+◌, ◌^◌, ◌<◌, ◌≤◌, List, [], ◌∷◌, ◌++◌, length, map, flat_map, Option, Some, None, IfSome, refl, sym, ap, subst, ◌∙◌, arith, append_assoc, AllByRecursion, BeginsWith, Bulletin, Call, FindsBulletins, FindsCircuits, FitBodies, FitsBulletin, FitsCircuit, FitsNeed, FitsValue, FitsValueCircuit, bulletin_of, bulletin_text, bytes_from, checkpoint_text, circuit_need_of, circuit_text, first_of, head_text, need_of, unowed, unowed_circuit, written_bulletin, written_circuit, Need, length-map, same_parts}
 use Rattle.gts_event.specs.Need as needs
 use Rattle.gts_event.specs.declared.values.Bulletin as values
 use Rattle.gts_event.specs.declared.values.CircuitNeed as value_circuit
-use Rattle.gts_record.proofs.LawLemmas.{number_in-bytes_of}
-use Rattle.gts_checkpoint.proofs.PieceLemmas.{same_bulletin, fits_value}
+use Rattle.gts_checkpoint.proofs.HeadLemmas.{same_number}
+use Rattle.gts_checkpoint.proofs.PieceLemmas.{behind, moved, same_bulletin, fits_value}
 use Rattle.gts_checkpoint.proofs.NeedLemmas.{need_text, need_size}
-use Rattle.gts_frame.proofs.LawLemmas.{same_parts}
-
-take_whole : (n : ℕ) (xs : List ℕ) → length xs ≡ n → take n xs ≡ xs
-take_whole zero [] long = refl
-take_whole zero (x ∷ xs) long = absurd (omega arith)
-take_whole (suc n) [] long = refl
-take_whole (suc n) (x ∷ xs) long = ap (λ (l : List ℕ). x ∷ l) (take_whole n xs (omega arith))
-
-pub front_stands : (bytes : List ℕ) (circuits accepted bulletins : ℕ) → length (drop 8 (drop 4 (drop 4 bytes))) ≡ 4 → take 4 bytes ≡ 67 ∷ 0 ∷ 0 ∷ 0 ∷ []
-    → take 4 (drop 4 bytes) ≡ bytes_of 4 circuits → take 8 (drop 4 (drop 4 bytes)) ≡ bytes_of 8 accepted → take 4 (drop 8 (drop 4 (drop 4 bytes))) ≡ bytes_of 4 bulletins
-    → bytes ≡ head_text circuits accepted bulletins
-front_stands bytes circuits accepted bulletins long l c a b = grind (arith, common_steps, take_whole)
 
 -- ---- a text that stands there is that of a need
-
-same_number : (w m n : ℕ) → m < 256 ^ w → n < 256 ^ w → bytes_of w m ≡ bytes_of w n → m ≡ n
-same_number w m n low high same = sym (number_in-bytes_of w m low) ∙ ap number_in same ∙ number_in-bytes_of w n high
 
 record SameFront (circuits bulletins : ℕ) (m : needs.Need) (rest more : List ℕ) : Type 0 where
   pub circuits_are : circuits ≡ length m.circuits
@@ -50,9 +31,14 @@ no_front bytes head m stands long none begins =
     (same_parts head h stands.0 (bs ++ (cs ++ begins.0)) long (sym stands.1 ∙ begins.1 ∙ split)).0
 
 -- without bulletins behind the front there is none
-pub no_bulletins : (bytes head : List ℕ) (circuits accepted bulletins : ℕ) (m : needs.Need) → (stands : BeginsWith bytes head) → head ≡ head_text circuits accepted bulletins → circuits < 2 ^ 32 → bulletins < 2 ^ 32
-    → ((bs : List Bulletin) → length bs ≡ bulletins → FitBodies bs → BeginsWith stands.0 (flat_map bulletin_text bs) → ⊥) → FitsNeed m → FitBodies m.bulletins → BeginsWith bytes (checkpoint_text m) → ⊥
-no_bulletins bytes head circuits accepted bulletins m stands is low high none fits bodies begins = grind (arith, common_steps, same_front)
+pub no_bulletins : (calls now : List Call) (file : ℕ) (head : List ℕ) (circuits accepted bulletins : ℕ) (found : Option (List values.Bulletin × ℕ)) (m : needs.Need) → BeginsWith (bytes_from calls file 41) head
+    → head ≡ head_text circuits accepted bulletins → circuits < 2 ^ 32 → bulletins < 2 ^ 32 → now ≡ calls → found ≡ None → FindsBulletins (bytes_from now file 61) bulletins (first_of found)
+    → FitsNeed m → FitBodies m.bulletins → BeginsWith (bytes_from calls file 41) (checkpoint_text m) → ⊥
+no_bulletins calls now file head circuits accepted bulletins found m stands is low high told none finds fits bodies begins =
+    let N : List ℕ → Type 0 = λ l. (bs : List Bulletin) → length bs ≡ bulletins → FitBodies bs → BeginsWith l (flat_map bulletin_text bs) → ⊥ in
+    let nothing = subst N (behind calls file 41 20 head stands.0 stands.1 (ap (λ (l : List ℕ). length l) is)) (moved (λ l o. FindsBulletins l bulletins (first_of o)) calls now file 61 61 found None told refl none finds) in
+    let f = same_front (bytes_from calls file 41) head stands.0 circuits accepted bulletins m stands.1 is low high fits begins in
+    nothing m.bulletins (sym f.bulletins_are) bodies (flat_map circuit_text m.circuits ++ begins.0, f.behind_it)
 
 -- bulletins that stand at one front, as many, have one text
 same_bulletins : (xs : List values.Bulletin) (ys : List Bulletin) (rest more : List ℕ) → length xs ≡ length ys → AllByRecursion FitsValue xs → FitBodies ys
@@ -67,11 +53,41 @@ same_bulletins (x ∷ xs) (y ∷ ys) rest more long good fit same =
     same_bulletins xs ys rest more (omega (arith, long)) good.1 fit.1
     (same_parts (written_bulletin x) (bulletin_text y) (flat_map written_bulletin xs ++ rest) (flat_map bulletin_text ys ++ more) (ap (λ (l : List ℕ). length l) one) split).1
 
+-- a front, and behind it as many bulletins as this, up to a place
+pub record HasBulletins (calls : List Call) (file : ℕ) (head : List ℕ) (xs : List values.Bulletin) (at count : ℕ) : Type 0 where
+  pub first : BeginsWith (bytes_from calls file 41) head
+  pub second : BeginsWith first.0 (flat_map written_bulletin xs)
+  pub behind_it : bytes_from calls file at ≡ second.0
+  pub good : AllByRecursion FitsValue xs
+  pub size : length xs ≡ count
+
+pub has_bulletins : (calls now : List Call) (file count : ℕ) (head : List ℕ) (found : Option (List values.Bulletin × ℕ)) (xs : List values.Bulletin) (at : ℕ) → BeginsWith (bytes_from calls file 41) head → length head ≡ 20
+    → now ≡ calls → found ≡ Some (xs, at) → FindsBulletins (bytes_from now file 61) count (first_of found) → IfSome found (λ bs. bs.1 ≡ 61 + length (flat_map written_bulletin bs.0))
+    → IfSome found (λ bs. AllByRecursion FitsValue bs.0) → HasBulletins calls file head xs at count
+has_bulletins calls now file count head found xs at stands long told is finds place good =
+    let P : Option (List values.Bulletin × ℕ) → Type 0 = λ o. IfSome o (λ bs. bs.1 ≡ 61 + length (flat_map written_bulletin bs.0)) in
+    let A : Option (List values.Bulletin × ℕ) → Type 0 = λ o. IfSome o (λ bs. AllByRecursion FitsValue bs.0) in
+    let there = moved (λ l o. FindsBulletins l count (first_of o)) calls now file 61 61 found (Some (xs, at)) told refl is finds in
+    let behind_head : bytes_from calls file 61 ≡ stands.0 = behind calls file 41 20 head stands.0 stands.1 long in
+    let second : BeginsWith stands.0 (flat_map written_bulletin xs) = subst (λ (l : List ℕ). BeginsWith l (flat_map written_bulletin xs)) behind_head there.0 in
+    record {
+      first = stands;
+      second = second;
+      behind_it = ap (λ (k : ℕ). bytes_from calls file k) (subst P is place) ∙ behind calls file 61 (length (flat_map written_bulletin xs)) (flat_map written_bulletin xs) second.0 (behind_head ∙ second.1) refl;
+      good = subst A is good;
+      size = there.1;
+    }
+
 -- without circuits behind the bulletins there is none
-pub no_circuits : (bytes head : List ℕ) (circuits accepted : ℕ) (xs : List values.Bulletin) (m : needs.Need) → (stands : BeginsWith bytes head) → head ≡ head_text circuits accepted (length xs) → circuits < 2 ^ 32 → length xs < 2 ^ 32
-    → (second : BeginsWith stands.0 (flat_map written_bulletin xs)) → AllByRecursion FitsValue xs
-    → ((cs : List needs.CircuitNeed) → length cs ≡ circuits → AllByRecursion FitsCircuit cs → BeginsWith second.0 (flat_map circuit_text cs) → ⊥) → FitsNeed m → FitBodies m.bulletins → BeginsWith bytes (checkpoint_text m) → ⊥
-no_circuits bytes head circuits accepted xs m stands is low high second good none fits bodies begins = grind (arith, common_steps, same_bulletins, same_front)
+pub no_circuits : (calls now : List Call) (file : ℕ) (head : List ℕ) (circuits accepted bulletins at : ℕ) (xs : List values.Bulletin) (found : Option (List value_circuit.CircuitNeed × ℕ)) (m : needs.Need)
+    → HasBulletins calls file head xs at bulletins → head ≡ head_text circuits accepted bulletins → circuits < 2 ^ 32 → bulletins < 2 ^ 32 → now ≡ calls → found ≡ None
+    → FindsCircuits (bytes_from now file at) circuits (first_of found) → FitsNeed m → FitBodies m.bulletins → BeginsWith (bytes_from calls file 41) (checkpoint_text m) → ⊥
+no_circuits calls now file head circuits accepted bulletins at xs found m has is low high told none finds fits bodies begins =
+    let N : List ℕ → Type 0 = λ l. (cs : List needs.CircuitNeed) → length cs ≡ circuits → AllByRecursion FitsCircuit cs → BeginsWith l (flat_map circuit_text cs) → ⊥ in
+    let nothing = subst N has.behind_it (moved (λ l o. FindsCircuits l circuits (first_of o)) calls now file at at found None told refl none finds) in
+    let f = same_front (bytes_from calls file 41) head has.first.0 circuits accepted bulletins m has.first.1 is low high fits begins in
+    nothing m.circuits (sym f.circuits_are) fits.circuits
+    (begins.0, same_bulletins xs m.bulletins has.second.0 (flat_map circuit_text m.circuits ++ begins.0) (has.size ∙ f.bulletins_are) has.good bodies (sym has.second.1 ∙ f.behind_it))
 
 -- ---- what was found
 
@@ -93,9 +109,16 @@ unowed_all (c ∷ cs) good = grind (arith, common_steps, unowed_all cs good.1)
 pub need_unowed : (n : Need) → AllByRecursion FitsValueCircuit n.circuits → unowed (need_of n) ≡ need_of n
 need_unowed n good = ap (λ (cs : List needs.CircuitNeed). let m : needs.Need = record { accepted = n.accepted; bulletins = map bulletin_of n.bulletins; circuits = cs } in m) (unowed_all n.circuits good)
 
-pub need_stands : (bytes head : List ℕ) (n : Need) → (stands : BeginsWith bytes head) → head ≡ head_text (length n.circuits) n.accepted (length n.bulletins)
+text_stands : (bytes head : List ℕ) (n : Need) → (stands : BeginsWith bytes head) → head ≡ head_text (length n.circuits) n.accepted (length n.bulletins)
     → (second : BeginsWith stands.0 (flat_map written_bulletin n.bulletins)) → BeginsWith second.0 (flat_map written_circuit n.circuits) → BeginsWith bytes (checkpoint_text (need_of n))
-need_stands bytes head n stands is second third = grind (arith, common_steps, need_text)
+text_stands bytes head n stands is second third = grind (arith, common_steps, need_text)
+
+pub need_stands : (calls now : List Call) (file : ℕ) (head : List ℕ) (circuits bulletins at place : ℕ) (n : Need) (found : Option (List value_circuit.CircuitNeed × ℕ)) → HasBulletins calls file head n.bulletins at bulletins
+    → head ≡ head_text circuits n.accepted bulletins → now ≡ calls → found ≡ Some (n.circuits, place) → FindsCircuits (bytes_from now file at) circuits (first_of found) → BeginsWith (bytes_from calls file 41) (checkpoint_text (need_of n))
+need_stands calls now file head circuits bulletins at place n found has is told found_is finds =
+    let there = moved (λ l o. FindsCircuits l circuits (first_of o)) calls now file at at found (Some (n.circuits, place)) told refl found_is finds in
+    text_stands (bytes_from calls file 41) head n has.first (is ∙ (λ k. head_text (sym there.1 k) n.accepted (sym has.size k))) has.second
+    (subst (λ (l : List ℕ). BeginsWith l (flat_map written_circuit n.circuits)) has.behind_it there.0)
 
 pub gate_behind : (n : Need) (at behind_bulletins : ℕ) → behind_bulletins ≡ 41 + 20 + length (flat_map written_bulletin n.bulletins) → at ≡ behind_bulletins + length (flat_map written_circuit n.circuits)
     → at ≡ 41 + length (checkpoint_text (need_of n))

@@ -1,9 +1,9 @@
 -- What the proofs of crates above need of a checkpoint.
-use Rattle.std.proofs.Common.{◌≡◌, ℕ, ◌<◌, ◌≤◌, nat_lt, true, List, [], ◌∷◌, length, arith}
-use Rattle.gts_checkpoint.specs.Cited.{AllByRecursion, Bulletin, Directory, FitBytes, FitsByte, Need, is_bulletin, is_sound, list_all}
-use Rattle.std.proofs.lemmas.Bool.Decides.{nat_tests}
-use Rattle.gts_event.proofs.LawLemmas.{sound-parts}
+use Rattle.gts_checkpoint.proofs.Cited.{◌≡◌, ℕ, ◌<◌, ◌≤◌, nat_lt, true, List, [], ◌∷◌, length, arith, AllByRecursion, Bulletin, Directory, FitBytes, FitsByte, is_bulletin, is_sound, list_all, nat_tests, sound-parts}
+use Rattle.gts_checkpoint.specs.Cited.{Need}
 pub use Rattle.gts_checkpoint.proofs.SealLemmas.{starts_front}
+pub use Rattle.gts_checkpoint.proofs.ReadLemmas.{MayBegin, fit_bodies, may_begin}
+pub use Rattle.gts_checkpoint.proofs.HeadLemmas.{bulletin_listed, circuit_listed, front_more, length-or_else, listed_low, listed_more, need_front}
 
 -- each bulletin of a sound need came in on a circuit
 below_all : (d : Directory) (count : ℕ) (bs : List Bulletin) → length d.circuits ≤ 64 → list_all (is_bulletin d count) bs ≡ true → AllByRecursion FitsByte bs

@@ -1,8 +1,10 @@
+mod Cited
 pub mod AloneLemmas
 pub mod AscendingLemmas
 pub mod NamedLemmas
 pub mod SoundLemmas
 pub mod WriterLemmas
+pub mod HeadLemmas
 pub mod PieceLemmas
 pub mod NeedLemmas
 pub mod FrontLemmas

@@ -1,11 +1,5 @@
 -- Positions that are found, and lists of which each element passes a test.
-use Rattle.std.proofs.Common.{◌≡◌, ℕ, zero, suc, ◌<◌, ◌≤◌, Bool, true, false, ◌||◌, ◌==◌, List, [], ◌∷◌, length, get_or, take, slice_get, Option, Some, None, refl, sym, ap, ◌∙◌, IfSome, IfNone, is_some}
-use Rattle.gts_checkpoint.specs.Cited.{Bulletin, has, is_there, list_all, positions_of}
-use Rattle.std.proofs.lemmas.Bool.{eq-eqb}
-use Rattle.std.proofs.lemmas.List.{take_all}
-use Rattle.std.proofs.lemmas.List.Folds.{list_all_at}
-use Rattle.std.proofs.lemmas.Grind.{common_steps}
-use Rattle.std.proofs.Common.{arith}
+use Rattle.gts_checkpoint.proofs.Cited.{◌≡◌, ℕ, zero, suc, ◌<◌, ◌≤◌, Bool, true, false, ◌||◌, ◌==◌, List, [], ◌∷◌, length, get_or, take, slice_get, Option, Some, None, refl, sym, ap, ◌∙◌, IfSome, IfNone, is_some, Bulletin, has, is_there, list_all, positions_of, eq-eqb, take_all, list_all_at, common_steps, arith}
 
 -- ---- each element passes
 

@@ -1,18 +1,11 @@
 -- A need as it is written.
-use Rattle.std.proofs.lemmas.Grind.{common_steps}
-use Rattle.std.proofs.Common.{◌≡◌, ℕ, ◌+◌, ◌*◌, ◌^◌, ◌<◌, ◌≤◌, List, [], ◌∷◌, ◌++◌, length, map, flat_map, refl, sym, ap, ◌∙◌, append_assoc, length-append, arith}
-use Rattle.gts_checkpoint.specs.Cited.{AllByRecursion, Call, CanPutBulletin, CanPutCircuit, Cuts, Did, FitsByte, HasWritten, SealingWriter, Syncs, Writes, bulletin_of, bulletin_text, checkpoint_file, checkpoint_text, circuit_need_of, circuit_text, closed_gate, head_text, header_text, magic, need_of, open_gate, put_by, sealed_need, seen, written, written_bulletin, written_circuit}
+use Rattle.gts_checkpoint.proofs.Cited.{common_steps, ◌≡◌, ℕ, ◌+◌, ◌*◌, ◌^◌, ◌<◌, ◌≤◌, List, [], ◌∷◌, ◌++◌, length, map, flat_map, refl, sym, ap, ◌∙◌, append_assoc, length-append, arith, AllByRecursion, Call, CanPutBulletin, CanPutCircuit, Cuts, Did, FitsByte, HasWritten, SealingWriter, Syncs, Writes, bulletin_of, bulletin_text, checkpoint_file, checkpoint_text, circuit_need_of, circuit_text, closed_gate, head_text, header_text, magic, need_of, open_gate, put_by, sealed_need, seen, written, written_bulletin, written_circuit, Need, append-nil, length-map, eq-eqb, flat_of}
 use Rattle.gts_event.specs.declared.values.Bulletin.{Bulletin}
 use Rattle.gts_event.specs.declared.values.CircuitNeed.{CircuitNeed}
-use Rattle.gts_event.specs.declared.values.Need.{Need}
-use Rattle.std.proofs.lemmas.List.{append-nil, length-map}
-use Rattle.std.proofs.lemmas.Bool.{eq-eqb}
 use Rattle.gts_event.specs.State as states
 use Rattle.gts_event.specs.Need as needs
-use Rattle.gts_event.proofs.ExtentLemmas.{flat_of}
 use Rattle.gts_checkpoint.proofs.WriterLemmas.{written_end}
-use Rattle.gts_checkpoint.proofs.PieceLemmas.{head_long}
-use Rattle.gts_opening.proofs.LawLemmas.{length-numbers}
+use Rattle.gts_checkpoint.proofs.HeadLemmas.{length-bulletin_text, length-circuit_text}
 
 -- the pieces of a need are its checkpoint
 pub need_text : (n : Need) → head_text (length n.circuits) n.accepted (length n.bulletins) ++ flat_map written_bulletin n.bulletins ++ flat_map written_circuit n.circuits ≡ checkpoint_text (need_of n)
@@ -27,10 +20,10 @@ need_text n =
 -- ---- what is written is longer than what is in it
 
 pub body_within : (b : Bulletin) → 16 + length b.body ≡ length (written_bulletin b)
-body_within b = grind (arith, common_steps, head_long)
+body_within b = sym (length-bulletin_text (bulletin_of b))
 
 pub lists_within : (c : CircuitNeed) → 16 + 8 * (length c.waiting + length c.kept) ≡ length (written_circuit c)
-lists_within c = grind (arith, common_steps, length-numbers)
+lists_within c = sym (length-circuit_text (circuit_need_of c))
 
 pub many_bulletins : (bs : List Bulletin) → 16 * length bs ≤ length (flat_map written_bulletin bs)
 many_bulletins [] = omega arith
@@ -67,14 +60,12 @@ need_size n =
 bulletins_long : (bs : List states.Bulletin) → length (flat_map bulletin_text bs) ≡ 16 * length bs + length (flat_map (λ (b : states.Bulletin). b.body) bs)
 bulletins_long [] = refl
 bulletins_long (b ∷ bs) =
-    let one : 16 + length b.body ≡ length (bulletin_text b) = body_within (record { position = b.position; from = b.from; kind = b.kind; body = b.body }) in
-    omega (arith, one, length-append (bulletin_text b) (flat_map bulletin_text bs), length-append b.body (flat_map (λ (x : states.Bulletin). x.body) bs), bulletins_long bs)
+    omega (arith, length-bulletin_text b, length-append (bulletin_text b) (flat_map bulletin_text bs), length-append b.body (flat_map (λ (x : states.Bulletin). x.body) bs), bulletins_long bs)
 
 circuits_long : (cs : List needs.CircuitNeed) → length (flat_map circuit_text cs) ≡ 16 * length cs + 8 * length (flat_map (λ (c : needs.CircuitNeed). c.waiting ++ c.kept) cs)
 circuits_long [] = refl
 circuits_long (c ∷ cs) =
-    let one : 16 + 8 * (length c.waiting + length c.kept) ≡ length (circuit_text c) = lists_within (record { draws = c.draws; waiting = c.waiting; kept = c.kept; owed = c.owed }) in
-    omega (arith, one, length-append (circuit_text c) (flat_map circuit_text cs), length-append c.waiting c.kept, length-append (c.waiting ++ c.kept) (flat_map (λ (x : needs.CircuitNeed). x.waiting ++ x.kept) cs), circuits_long cs)
+    omega (arith, length-circuit_text c, length-append (circuit_text c) (flat_map circuit_text cs), length-append c.waiting c.kept, length-append (c.waiting ++ c.kept) (flat_map (λ (x : needs.CircuitNeed). x.waiting ++ x.kept) cs), circuits_long cs)
 
 pub text_long : (n : needs.Need) → length (checkpoint_text n)
     ≡ 20 + (16 * length n.bulletins + length (flat_map (λ b. b.body) n.bulletins)) + (16 * length n.circuits + 8 * length (flat_map (λ c. c.waiting ++ c.kept) n.circuits))

@@ -1,16 +1,8 @@
 -- Whether a need that was read may be the first record of a journal.
-use Rattle.std.proofs.lemmas.Grind.{common_steps}
-use Rattle.std.proofs.Common.{◌≡◌, ℕ, ◌+◌, ◌-◌, ◌*◌, ◌^◌, ◌<◌, ◌≤◌, Bool, true, false, ◌&&◌, nat_eq, nat_le, List, [], ◌∷◌, ◌++◌, length, map, take, drop, zip, flat_map, Result, Ok, Err, sym, ap, subst, ◌∙◌, arith, length-append, min, is_some, IfErr, IfSome, Option, None, Some}
-use Rattle.gts_checkpoint.specs.Cited.{BeginsWith, Bulletin, Call, CanBegin, Circuit, CircuitState, Damaged, Directory, DiskFault, FindsText, FitBodies, FitsNeed, HasRead, IsDamage, IsReadFault, NoJournal, NoMemory, NotThis, OldVersion, OpenFault, Version, admits_checkpoint, begun, begun_circuit, bytes_from, checkpoint_text, circuit_need, circuit_need_of, compacted_bytes, draw_size, due, first_of, first_seal, fold, held, is_bulletin, is_sealed, is_sound, list_all, need_in, need_of, same_text, seal, seal_size, starts_with, unowed, waiting, waiting_of}
-use Rattle.gts_event.specs.declared.values.Need.{Need}
-use Rattle.std.proofs.lemmas.Bool.{false≢true, and_parts, and_from, le-leb, leb-true, false_from_ne_true}
-use Rattle.std.proofs.lemmas.List.{length-map, take_at, take-append-drop}
+use Rattle.gts_checkpoint.proofs.Cited.{common_steps, ◌≡◌, ℕ, ◌+◌, ◌-◌, ◌*◌, ◌^◌, ◌<◌, ◌≤◌, Bool, true, false, ◌&&◌, nat_eq, nat_le, List, [], ◌∷◌, length, map, take, zip, flat_map, Result, Ok, Err, sym, ap, subst, ◌∙◌, arith, length-append, min, is_some, IfErr, IfSome, Option, None, Some, BeginsWith, Bulletin, Call, CanBegin, Circuit, CircuitState, Directory, DiskFault, FindsText, FitBodies, FitsNeed, HasRead, IsDamage, IsReadFault, NoMemory, OpenFault, Version, admits_checkpoint, begun, begun_circuit, bytes_from, checkpoint_text, circuit_need, circuit_need_of, compacted_bytes, draw_size, due, first_of, first_seal, fold, held, is_bulletin, is_sealed, is_sound, list_all, need_in, need_of, seal, seal_size, starts_with, unowed, waiting, waiting_of, Need, false≢true, and_parts, and_from, le-leb, leb-true, false_from_ne_true, length-map, take_at, need-begun, sound-parts, bulletin_bounds, starts_with-append, need_in-text, fits-sound}
 use Rattle.gts_event.specs.Need as needs
 use Rattle.gts_event.specs.declared.values.CircuitNeed as value_circuit
-use Rattle.gts_event.proofs.LawLemmas.{need-begun, sound-parts, bulletin_bounds}
-use Rattle.gts_record.proofs.LawLemmas.{starts_with-append}
-use Rattle.gts_opening.proofs.CheckpointLemmas.{need_in-text}
-use Rattle.gts_opening.proofs.FileLemmas.{fits-sound}
+use Rattle.gts_checkpoint.proofs.HeadLemmas.{starts_there}
 
 -- ---- what waits on circuits of which this is needed
 
@@ -44,22 +36,19 @@ pub admitted : (v : Version) (d : Directory) (bytes : List ℕ) (n : needs.Need)
     → compacted_bytes v n + draw_size v * due (begun n) ≤ d.limit → admits_checkpoint v d bytes n ≡ true
 admitted v d bytes n begins stands sound room = grind (arith, common_steps, and_from, le-leb, starts_with-append)
 
-record MayBegin (v : Version) (d : Directory) (bytes : List ℕ) (n : needs.Need) : Type 0 where
+pub record MayBegin (v : Version) (d : Directory) (bytes : List ℕ) (n : needs.Need) : Type 0 where
   pub begins : BeginsWith bytes (checkpoint_text n)
   pub stands : is_sealed v (first_seal v d.mark) (checkpoint_text n) bytes ≡ true
   pub sound : is_sound d n ≡ true
   pub room : compacted_bytes v n + draw_size v * due (begun n) ≤ d.limit
 
-may_begin : (v : Version) (d : Directory) (bytes : List ℕ) (n : needs.Need) → admits_checkpoint v d bytes n ≡ true → MayBegin v d bytes n
+pub may_begin : (v : Version) (d : Directory) (bytes : List ℕ) (n : needs.Need) → admits_checkpoint v d bytes n ≡ true → MayBegin v d bytes n
 may_begin v d bytes n h =
     let sealing : Bool = is_sealed v (first_seal v d.mark) (checkpoint_text n) bytes in
     let h1 = and_parts _ (nat_le (compacted_bytes v n + draw_size v * due (begun n)) d.limit) h in
     let h2 = and_parts (starts_with nat_eq bytes (checkpoint_text n) && sealing) (is_sound d n) h1.0 in
     let h3 = and_parts (starts_with nat_eq bytes (checkpoint_text n)) sealing h2.0 in
-    let text : List ℕ = checkpoint_text n in
-    let stands : bytes ≡ text ++ drop (length text) bytes =
-    sym (take-append-drop (length text) bytes) ∙ ap (λ (f : List ℕ). f ++ drop (length text) bytes) (sym (same_text text (take (length text) bytes) (sym h3.0))) in
-    record { begins = (drop (length text) bytes, stands); stands = h3.1; sound = h2.1; room = leb-true (compacted_bytes v n + draw_size v * due (begun n)) d.limit h1.1 }
+    record { begins = starts_there bytes (checkpoint_text n) h3.0; stands = h3.1; sound = h2.1; room = leb-true (compacted_bytes v n + draw_size v * due (begun n)) d.limit h1.1 }
 
 pub fit_bodies : (d : Directory) (accepted : ℕ) (bs : List Bulletin) → accepted ≤ 2 ^ 62 → list_all (is_bulletin d accepted) bs ≡ true → FitBodies bs
 fit_bodies d accepted [] few all = tt

@@ -1,9 +1,5 @@
 -- The seal of bytes that are read piece by piece.
-use Rattle.std.proofs.lemmas.Grind.{common_steps}
-use Rattle.std.proofs.Common.{◌≡◌, ℕ, ◌+◌, ◌-◌, ◌<◌, ◌≤◌, Bool, true, false, ◌&&◌, nat_eq, List, [], ◌∷◌, ◌++◌, length, take, drop, refl, sym, ap, ◌∙◌, append_assoc, take-append-drop, length-append, arith, Option, Some, IfSome}
-use Rattle.gts_checkpoint.specs.Cited.{BeginsWith, Call, Version, bytes_from, held, is_sealed, pointwise, seal, seal_size, starts_with}
-use Rattle.std.proofs.lemmas.List.{take_at, take_all, take-append-le, length-take-le}
-use Rattle.gts_record.proofs.LawLemmas.{length-seal}
+use Rattle.gts_checkpoint.proofs.Cited.{common_steps, ◌≡◌, ℕ, ◌+◌, ◌-◌, ◌<◌, ◌≤◌, Bool, true, false, ◌&&◌, nat_eq, List, [], ◌∷◌, ◌++◌, length, take, drop, refl, sym, ap, ◌∙◌, append_assoc, take-append-drop, length-append, arith, Option, Some, IfSome, BeginsWith, Call, Version, bytes_from, held, is_sealed, pointwise, seal, seal_size, starts_with, take_at, take_all, take-append-le, length-take-le, length-seal}
 use Rattle.gts_checkpoint.proofs.PieceLemmas.{behind}
 
 -- what stands behind the first bytes

@@ -1,13 +1,6 @@
 -- Numbers that differ, what is held on circuits, and the parts of soundness.
-use Rattle.std.proofs.lemmas.Grind.{common_steps}
-use Rattle.std.proofs.Common.{◌≡◌, ◌≢◌, ℕ, zero, suc, ◌+◌, ◌-◌, ◌<◌, ◌≤◌, Bool, true, false, not, ◌&&◌, ◌==◌, ◌⊎◌, inl, inr, nat_lt, nat_le, List, [], ◌∷◌, ◌++◌, length, get_or, map, filter, zip, slice_get, Some, None, Result, Ok, Err, refl, sym, ap, ◌∙◌, arith}
-use Rattle.gts_checkpoint.specs.Cited.{Circuit, CircuitNeed, Directory, IfOk, IsNonDecreasing, IsPermutation, Need, are_circuits_sound, ascends, circuit_need_of, has, has_counts, has_positions, is_circuit_sound, is_distinct, is_held, is_kept, is_needed, is_recent, is_there, list_all, most_owed, need_of}
-use Rattle.std.proofs.Math.Bool.{and-false, and-true}
-use Rattle.std.proofs.lemmas.Bool.{and_parts, and_from, eq-eqb, ne_eqb, eqb-true, leb-true, le-leb, false_from_ne_true, cases_lt}
-use Rattle.std.proofs.lemmas.List.Folds.{list_all-append}
-use Rattle.std.proofs.lemmas.List.Sums.{length-filter}
-use Rattle.std.proofs.lemmas.Option.{slice_get_cases, slice_get_read}
-use Rattle.std.proofs.lemmas.List.Sorted.{IsPermutation-sym, All-permutation, sum_by-IsPermutation, list_any-IsPermutation}
+use Rattle.gts_checkpoint.proofs.Cited.{common_steps, ◌≡◌, ◌≢◌, ℕ, zero, suc, ◌+◌, ◌-◌, ◌<◌, ◌≤◌, Bool, true, false, not, ◌&&◌, ◌==◌, ◌⊎◌, inl, inr, nat_lt, nat_le, List, [], ◌∷◌, ◌++◌, length, get_or, map, filter, zip, slice_get, Some, None, Result, Ok, Err, refl, sym, ap, ◌∙◌, arith, Circuit, CircuitNeed, Directory, IfOk, IsNonDecreasing, IsPermutation, are_circuits_sound, ascends, circuit_need_of, has, has_counts, has_positions, is_distinct, is_held, is_kept, is_needed, is_recent, is_there, list_all, most_owed, need_of, and-false, and-true, and_parts, and_from, eq-eqb, ne_eqb, eqb-true, leb-true, le-leb, false_from_ne_true, cases_lt, list_all-append, length-filter, slice_get_cases, slice_get_read, IsPermutation-sym, All-permutation, sum_by-IsPermutation, list_any-IsPermutation}
+use Rattle.gts_checkpoint.specs.Cited.{Need, is_circuit_sound}
 use Rattle.gts_event.specs.declared.values.CircuitNeed as values
 use Rattle.gts_event.specs.declared.values.Need as value_need
 use Rattle.gts_checkpoint.proofs.AscendingLemmas.{rises, ascends-from}

@@ -1,10 +1,6 @@
 -- How pieces are put one behind the other.
-use Rattle.std.proofs.lemmas.Grind.{common_steps}
-use Rattle.std.proofs.Common.{◌≡◌, ℕ, zero, suc, ◌+◌, ◌<◌, ◌≤◌, get_or, List, [], ◌∷◌, ◌++◌, length, take, drop, refl, ap, subst, ◌∙◌, arith, Result, Ok, Err, OnOk}
-use Rattle.gts_event.proofs.ExtentLemmas.{flat_more}
-use Rattle.gts_checkpoint.specs.Cited.{Call, HasPut, SealingWriter, Stands, flat_map, overwritten, put_by}
-use Rattle.std.proofs.lemmas.List.{append-nil}
-use Rattle.std.proofs.lemmas.List.Folds.{length-flat_map-take}
+use Rattle.gts_checkpoint.proofs.Cited.{common_steps, ◌≡◌, ℕ, zero, suc, ◌+◌, ◌<◌, ◌≤◌, get_or, List, [], ◌∷◌, ◌++◌, length, take, drop, refl, ap, subst, ◌∙◌, arith, Result, Ok, Err, OnOk, flat_more, Call, HasPut, SealingWriter, Stands, overwritten, put_by, append-nil, length-flat_map-take}
+use Rattle.gts_checkpoint.specs.Cited.{flat_map}
 
 -- two pieces are one
 pub put_more : (observed : Type 0) (xs ys : List ℕ) (a b c : List Call) (p q r : SealingWriter) → HasPut observed xs a p b q → HasPut observed ys b q c r → HasPut observed (xs ++ ys) a p c r

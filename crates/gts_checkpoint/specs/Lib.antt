@@ -1,5 +1,6 @@
 pub mod Alone
 pub mod SealingWriter
+pub mod Heads
 pub mod Writing
 pub mod Reading
 pub mod Sound

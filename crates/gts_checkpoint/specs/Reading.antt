@@ -1,10 +1,9 @@
 -- What is read of a checkpoint.
 use Rattle.std.specs.Prelude.{◌≡◌, ◌<◌, ◌≤◌, ◌+◌, ◌*◌, ◌^◌, ℕ, Bool, true, false, List, [], ◌++◌, length, take, drop, flat_map, Option, Some, None, IsTrue}
-use Rattle.gts_checkpoint.specs.Cited.Below.{AllByRecursion, Bulletin, Call, CircuitNeed, Damaged, Directory, DiskFault, FitsCircuit, FitsNeed, Kind, LONGEST_BODY, Need, NoMemory, OpenFault, Version, admits_checkpoint, begun, bulletin_of, bulletin_text, bytes_of, checkpoint_text, circuit_need_of, circuit_text, compacted_bytes, draw_size, due, first_seal, is_sealed, is_sound, need_in, need_of, seal, seen, unowed}
+use Rattle.gts_checkpoint.specs.Cited.Below.{AllByRecursion, Bulletin, Call, CircuitNeed, Damaged, Directory, DiskFault, FitsCircuit, FitsNeed, LONGEST_BODY, Need, NoMemory, OpenFault, Version, admits_checkpoint, begun, bulletin_of, bulletin_text, bytes_of, checkpoint_text, circuit_need_of, circuit_text, compacted_bytes, draw_size, due, first_seal, is_sealed, is_sound, need_in, need_of, seal, seen, unowed}
 use Rattle.gts_event.specs.declared.values.Bulletin as values
 use Rattle.gts_event.specs.declared.values.CircuitNeed as value_circuit
 use Rattle.gts_event.specs.declared.values.Need as value_need
-use Rattle.gts_checkpoint.specs.Writing.{head_text, bulletin_head}
 
 -- the bytes of a file from a place on
 abbrev pub bytes_from : List Call → ℕ → ℕ → List ℕ
@@ -19,10 +18,6 @@ abbrev pub is_sealed_front : Version → List ℕ → List ℕ → ℕ → Bool
 is_sealed_front v before bytes size = is_sealed v before (take size bytes) bytes
 
 -- ---- the pieces
-
--- these bytes are the head of no bulletin with a body that isn't too long
-abbrev pub IsNoHead : List ℕ → Type 0
-IsNoHead bytes = (position from : ℕ) (kind : Kind) (size : ℕ) → size ≤ LONGEST_BODY → bytes ≡ bulletin_head position from kind size → ⊥
 
 -- so many bytes stand there, or fewer
 abbrev pub FindsBytes : List ℕ → ℕ → Option (List ℕ) → Type 0
@@ -58,10 +53,6 @@ abbrev pub FindsCircuits : List ℕ → ℕ → Option (List value_circuit.Circu
 FindsCircuits bytes count (Some found) = BeginsWith bytes (flat_map (λ c. circuit_text (circuit_need_of c)) found) × (length found ≡ count)
 FindsCircuits bytes count None =
     (cs : List CircuitNeed) → length cs ≡ count → AllByRecursion FitsCircuit cs → BeginsWith bytes (flat_map circuit_text cs) → ⊥
-
--- these bytes are not the first of a checkpoint
-abbrev pub IsNoFront : List ℕ → Type 0
-IsNoFront bytes = (circuits accepted bulletins : ℕ) → bytes ≡ head_text circuits accepted bulletins → ⊥
 
 -- A checkpoint stands there, whatever its numbers mean; or none for so many circuits with bodies that aren't too long.
 abbrev pub FindsText : List ℕ → ℕ → Option value_need.Need → Type 0

@@ -1,6 +1,6 @@
 -- The file that a checkpoint is written to.
-use Rattle.std.specs.Prelude.{◌≡◌, ◌<◌, ◌^◌, ℕ, List, [], ◌∷◌, ◌++◌, length, take, codes}
-use Rattle.gts_checkpoint.specs.Cited.Below.{AllByRecursion, Bulletin, Call, IsSynced, Kind, Need, bulletin_of, bulletin_text, circuit_need_of, circuit_text, file_text, letters, magic, open_gate, seen}
+use Rattle.std.specs.Prelude.{◌≡◌, ◌<◌, ◌^◌, ℕ, List, [], ◌∷◌, ◌++◌, length}
+use Rattle.gts_checkpoint.specs.Cited.Below.{AllByRecursion, Bulletin, Call, IsSynced, Need, bulletin_of, bulletin_text, circuit_need_of, circuit_text, file_text, magic, open_gate, seen}
 use Rattle.gts_event.specs.declared.values.Bulletin as values
 use Rattle.gts_event.specs.declared.values.CircuitNeed as value_circuit
 pub use Rattle.gts_record.specs.Record.{closed_gate, bytes_of}
@@ -38,22 +38,6 @@ pub record HasWritten (mark : List ℕ) (n : Need) (file : ℕ) (calls : List Ca
   pub synced : (k : ℕ) → IsSynced calls k
 
 -- ---- the pieces in which a checkpoint is written
-
--- its first bytes, up to the bulletins
-abbrev pub head_text : ℕ → ℕ → ℕ → List ℕ
-head_text circuits accepted bulletins = codes "C" ++ 0 ∷ 0 ∷ 0 ∷ bytes_of 4 circuits ++ bytes_of 8 accepted ++ bytes_of 4 bulletins
-
--- the letter of a type
-abbrev pub letter_text : Kind → List ℕ
-letter_text kind = take 1 (letters kind)
-
--- what stands in front of a body
-abbrev pub bulletin_head : ℕ → ℕ → Kind → ℕ → List ℕ
-bulletin_head position from kind size = bytes_of 8 position ++ from ∷ letter_text kind ++ 0 ∷ 0 ∷ bytes_of 4 size
-
--- what stands in front of a circuit's positions
-abbrev pub circuit_head : ℕ → ℕ → ℕ → List ℕ
-circuit_head draws waiting kept = bytes_of 8 draws ++ bytes_of 4 waiting ++ bytes_of 4 kept
 
 -- a bulletin, and what is needed of a circuit, as they are written
 abbrev pub written_bulletin : values.Bulletin → List ℕ

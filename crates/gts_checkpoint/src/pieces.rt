@@ -1,11 +1,10 @@
 //! The pieces of a checkpoint, read from a place of a file on.
-ghost use Rattle.std.specs.Prelude.{◌≡◌, ◌+◌, ◌*◌, ◌^◌, ◌<◌, ◌≤◌, true, false, length, IfOk, IfErr, IfSome, IfNone, IsSome, Ok, vec_len};
-ghost use Rattle.gts_checkpoint.specs.Cited.{ArePlaces, BeginsWith, FindsBulletin, FindsBytes, FindsCircuit, FindsNumbers, FitsValueCircuit, IsNoHead, IsReadFault, LONGEST_BODY as longest_body, LooksAt, LooksAtOf, bulletin_head, bytes_from, circuit_head};
+ghost use Rattle.std.specs.Prelude.{◌≡◌, ◌+◌, ◌*◌, ◌^◌, ◌<◌, ◌≤◌, true, false, length, IfOk, IfErr, IfSome, Ok, vec_len};
+ghost use Rattle.gts_checkpoint.specs.Cited.{ArePlaces, BeginsWith, FindsBulletin, FindsBytes, FindsCircuit, FindsNumbers, FitsValueCircuit, IsReadFault, LONGEST_BODY as longest_body, LooksAt, LooksAtOf, bytes_from};
 
-use gts_alphabet::LONGEST_BODY;
+use crate::heads::{HEAD, bulletin_head_in, circuit_head_in};
 use gts_event::{Bulletin, Bytes, CircuitNeed, Items, Places};
-use gts_frame::Kind;
-use gts_record::{OpenFault, number_in_eight, number_in_four, read_kind};
+use gts_record::{OpenFault, number_in_eight};
 use gts_traits::{Failed, JournalFile, Station};
 use std::alloc::{AllocError, Global};
 
@@ -24,42 +23,6 @@ pub(crate) fn fetch<P: Station>(
 {
     let count = station.read(file, at, into)?;
     Ok(count == into.len())
-}
-
-/// What stands in front of a body.
-#[derive(Clone, Copy)]
-struct Head {
-    position: u64,
-    from: u8,
-    kind: Kind,
-    size: u32,
-}
-
-// The head of a bulletin, whose body isn't too long.
-fn head_in(bytes: &[u8]) -> Option<Head>
-    requires { length bytes.now ≡ 16 }
-    ensures found { IfSome result
-        (λ h. bytes.now ≡ bulletin_head h.position h.from h.kind h.size) }
-    ensures short { IfSome result (λ h. h.size ≤ longest_body) }
-    ensures none { IfNone result (IsNoHead bytes.now) }
-{
-    let (position, rest) = bytes.split_first_chunk::<8>()?;
-    let (letters, rest) = rest.split_first_chunk::<4>()?;
-    let [from, letter, 0, 0] = *letters else {
-        return None;
-    };
-    let kind = read_kind(letter)?;
-    let (size, _) = rest.split_first_chunk::<4>()?;
-    let size = number_in_four(size);
-    if size as usize > LONGEST_BODY {
-        return None;
-    }
-    Some(Head {
-        position: number_in_eight(position),
-        from,
-        kind,
-        size,
-    })
 }
 
 // So many zero bytes.
@@ -106,14 +69,14 @@ pub(crate) fn bulletin_at<P: Station>(
     ensures looks { LooksAtOf P.Station OpenFault.DiskFault result station.old station.new }
     ensures kind { IfErr result IsReadFault }
 {
-    let mut bytes = [0u8; 16];
+    let mut bytes = [0u8; HEAD];
     if !fetch(station, file, at, &mut bytes)? {
         return Ok(None);
     }
-    let Some(head) = head_in(&bytes) else {
+    let Some(head) = bulletin_head_in(&bytes) else {
         return Ok(None);
     };
-    let Some(body) = body_at(alloc, station, file, at + 16, head.size)? else {
+    let Some(body) = body_at(alloc, station, file, at + HEAD as u64, head.size)? else {
         return Ok(None);
     };
     Ok(Some(Bulletin {
@@ -151,30 +114,6 @@ fn positions_at<P: Station>(
     Ok(Some(places))
 }
 
-/// What stands in front of the positions of a circuit.
-#[derive(Clone, Copy)]
-struct Counts {
-    draws: u64,
-    waiting: u32,
-    kept: u32,
-}
-
-// The head of a circuit.
-fn counts_in(bytes: &[u8]) -> Option<Counts>
-    requires { length bytes.now ≡ 16 }
-    ensures found { IfSome result (λ h. bytes.now ≡ circuit_head h.draws h.waiting h.kept) }
-    ensures some { IsSome result }
-{
-    let (draws, rest) = bytes.split_first_chunk::<8>()?;
-    let (waiting, rest) = rest.split_first_chunk::<4>()?;
-    let (kept, _) = rest.split_first_chunk::<4>()?;
-    Some(Counts {
-        draws: number_in_eight(draws),
-        waiting: number_in_four(waiting),
-        kept: number_in_four(kept),
-    })
-}
-
 /// What is needed of a circuit, where it stands in a file at a place.
 pub(crate) fn circuit_at<P: Station>(
     alloc: Global,
@@ -189,22 +128,22 @@ pub(crate) fn circuit_at<P: Station>(
     ensures looks { LooksAtOf P.Station OpenFault.DiskFault result station.old station.new }
     ensures kind { IfErr result IsReadFault }
 {
-    let mut bytes = [0u8; 16];
+    let mut bytes = [0u8; HEAD];
     if !fetch(station, file, at, &mut bytes)? {
         return Ok(None);
     }
-    let Some(counts) = counts_in(&bytes) else {
+    let Some(head) = circuit_head_in(&bytes) else {
         return Ok(None);
     };
-    let Some(waiting) = positions_at(alloc, station, file, at + 16, counts.waiting)? else {
+    let Some(waiting) = positions_at(alloc, station, file, at + HEAD as u64, head.waiting)? else {
         return Ok(None);
     };
-    let behind = at + 16 + 8 * u64::from(counts.waiting);
-    let Some(kept) = positions_at(alloc, station, file, behind, counts.kept)? else {
+    let behind = at + HEAD as u64 + 8 * u64::from(head.waiting);
+    let Some(kept) = positions_at(alloc, station, file, behind, head.kept)? else {
         return Ok(None);
     };
     Ok(Some(CircuitNeed {
-        draws: counts.draws,
+        draws: head.draws,
         waiting,
         kept,
         owed: Places::new(),

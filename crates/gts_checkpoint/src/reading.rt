@@ -1,13 +1,14 @@
 ghost use Rattle.std.specs.Prelude.{◌≡◌, ◌+◌, ◌-◌, ◌*◌, ◌<◌, ◌≤◌, ◌^◌, length, take, flat_map, is_some, min, IsSome, IfOk, IfErr, IfSome, IfNone};
-ghost use Rattle.gts_checkpoint.specs.Cited.{CanBegin, FindsText, FitsNeed, HasRead, IsDamage, IsNoFront, IsReadFault, LooksAt, LooksAtOf, bytes_from, checkpoint_text, draw_size, first_of, head_text, held, is_sealed_front, seal, seal_size, unowed, waiting_of};
+ghost use Rattle.gts_checkpoint.specs.Cited.{CanBegin, FindsText, FitsNeed, HasRead, IsDamage, IsReadFault, LooksAt, LooksAtOf, bytes_from, checkpoint_text, draw_size, first_of, held, is_sealed_front, seal, seal_size, unowed, waiting_of};
 ghost use Rattle.gts_event.specs.Items as items;
 
+use crate::heads::{FRONT, front_in};
 use crate::lists::{bulletins_at, circuits_at};
 use crate::pieces::fetch;
 use crate::sound::is_sound;
 use gts_directory::Directory;
 use gts_event::{CircuitNeed, Need};
-use gts_record::{OpenFault, Sealer, Version, first_seal, number_in_eight, number_in_four};
+use gts_record::{OpenFault, Sealer, Version, first_seal};
 use gts_traits::{Failed, JournalFile, Station};
 use std::alloc::Global;
 
@@ -16,35 +17,6 @@ pub(crate) const FIRST_RECORD: u64 = 41;
 
 /// How many bytes of a checkpoint are read at once for its seal.
 const PIECE: usize = 4096;
-
-/// What stands in front of the bulletins of a checkpoint.
-#[derive(Clone, Copy)]
-struct Front {
-    circuits: u32,
-    accepted: u64,
-    bulletins: u32,
-}
-
-/// The first bytes of a checkpoint.
-fn front_in(bytes: &[u8]) -> Option<Front>
-    requires { length bytes.now ≡ 20 }
-    ensures found { IfSome result
-        (λ h. bytes.now ≡ head_text h.circuits h.accepted h.bulletins) }
-    ensures none { IfNone result (IsNoFront bytes.now) }
-{
-    let (letter, rest) = bytes.split_first_chunk::<4>()?;
-    let [b'C', 0, 0, 0] = *letter else {
-        return None;
-    };
-    let (circuits, rest) = rest.split_first_chunk::<4>()?;
-    let (accepted, rest) = rest.split_first_chunk::<8>()?;
-    let (bulletins, _) = rest.split_first_chunk::<4>()?;
-    Some(Front {
-        circuits: number_in_four(circuits),
-        accepted: number_in_eight(accepted),
-        bulletins: number_in_four(bulletins),
-    })
-}
 
 /// The need whose checkpoint stands behind the header of a file, and the place behind it: whatever its numbers mean,
 /// its bytes are those of a checkpoint for so many circuits.
@@ -65,7 +37,7 @@ pub(crate) fn need_at<P: Station>(
     ensures looks { LooksAtOf P.Station OpenFault.DiskFault result station.old station.new }
     ensures kind { IfErr result IsReadFault }
 {
-    let mut bytes = [0u8; 20];
+    let mut bytes = [0u8; FRONT];
     if !fetch(station, file, FIRST_RECORD, &mut bytes)? {
         return Ok(None);
     }
@@ -75,7 +47,7 @@ pub(crate) fn need_at<P: Station>(
     if front.circuits != circuits {
         return Ok(None);
     }
-    let at = FIRST_RECORD + 20;
+    let at = FIRST_RECORD + FRONT as u64;
     let Some((bulletins, at)) = bulletins_at(alloc, station, file, at, front.bulletins)? else {
         return Ok(None);
     };

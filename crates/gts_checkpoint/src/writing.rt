@@ -1,12 +1,12 @@
 ghost use Rattle.std.specs.Prelude.{◌≡◌, ◌+◌, ◌^◌, ◌<◌, ◌≤◌, [], ◌∷◌, ◌++◌, length, flat_map, IfOk, OnOk, IsErrOf};
-ghost use Rattle.gts_checkpoint.specs.Cited.{AllByRecursion, AsksDisk, AsksDiskOf, CanPutBulletin, CanPutCircuit, FitBytes, HasPut, HasWritten, OnlyOn, Seals, Stands, WorksBeside, bulletin_head, bytes_of, checkpoint_text, circuit_head, closed_gate, compacted_bytes, count_of, first_seal, head_text, header_text, held, need_seal, seal, sealed, seen, written, written_bulletin, written_circuit};
+ghost use Rattle.gts_checkpoint.specs.Cited.{AllByRecursion, AsksDisk, AsksDiskOf, CanPutBulletin, CanPutCircuit, FitBytes, HasPut, HasWritten, OnlyOn, Seals, Stands, WorksBeside, bytes_of, checkpoint_text, closed_gate, compacted_bytes, count_of, first_seal, header_text, held, need_seal, seal, sealed, seen, written, written_bulletin, written_circuit};
 ghost use Rattle.gts_event.specs.Items as items;
 
 use crate::fault::WriteFault;
+use crate::heads::{before_body, before_positions, head};
 use crate::writer::SealingWriter;
 use gts_event::{Bulletin, CircuitNeed, Need};
-use gts_frame::Kind;
-use gts_record::{HEADER, Sealer, Version, eight_bytes, first_seal, four_bytes, letter_of};
+use gts_record::{HEADER, Sealer, Version, eight_bytes, first_seal};
 use gts_traits::{Failed, JournalFile, Station};
 use std::alloc::Global;
 
@@ -26,41 +26,6 @@ fn header(mark: [u8; 32]) -> [u8; 41]
     let mut text = [OPEN; 41];
     text[..8].copy_from_slice(&Version::written().magic());
     text[8..40].copy_from_slice(&mark);
-    text
-}
-
-/// The first bytes of a checkpoint, up to its bulletins.
-fn head(circuits: u32, accepted: u64, bulletins: u32) -> [u8; 20]
-    ensures { result ≡ head_text circuits accepted bulletins }
-{
-    let mut text = [0u8; 20];
-    text[0] = b'C';
-    text[4..8].copy_from_slice(&four_bytes(circuits));
-    text[8..16].copy_from_slice(&eight_bytes(accepted));
-    text[16..].copy_from_slice(&four_bytes(bulletins));
-    text
-}
-
-/// What stands in front of a body.
-fn before_body(position: u64, from: u8, kind: Kind, size: u32) -> [u8; 16]
-    ensures { result ≡ bulletin_head position from kind size }
-{
-    let mut text = [0u8; 16];
-    text[..8].copy_from_slice(&eight_bytes(position));
-    text[8] = from;
-    text[9] = letter_of(kind);
-    text[12..].copy_from_slice(&four_bytes(size));
-    text
-}
-
-/// What stands in front of the positions of a circuit.
-fn before_positions(draws: u64, waiting: u32, kept: u32) -> [u8; 16]
-    ensures { result ≡ circuit_head draws waiting kept }
-{
-    let mut text = [0u8; 16];
-    text[..8].copy_from_slice(&eight_bytes(draws));
-    text[8..12].copy_from_slice(&four_bytes(waiting));
-    text[12..].copy_from_slice(&four_bytes(kept));
     text
 }
 

@@ -1,9 +1,5 @@
 -- A worker may go to another thread. (Its snapshot is the one field for which this isn't found without help.)
-use denote.RattleType.{RattleType}
-use denote.Ref.{NamedLft}
-use denote.Struct.Field.{shr_ref_field}
-use denote.Param.Send.{IsSend, sendable, view_send, shr_send}
-use denote.Param.SendFields.{declared_send, as_row_send}
+use Rattle.gts_circuits.proofs.Cited.{RattleType, NamedLft, shr_ref_field, IsSend, sendable, view_send, shr_send, declared_send, as_row_send}
 use Rattle.gts_traits.specs.declared.station.Station as station
 use Rattle.gts_traits.specs.declared.source.Source as source
 use Rattle.gts_traits.specs.declared.sink.Sink as sink

@@ -1,9 +1,5 @@
 -- What is sent on one circuit behind the threads, and on all.
-use Rattle.std.proofs.Common.{◌≡◌, ◌≢◌, ◌⊎◌, inl, inr, ℕ, zero, suc, ◌+◌, ◌<◌, List, length, [], ◌∷◌, ◌++◌, refl, sym, ap, ◌∙◌, subst, arith, append_assoc}
-use Rattle.std.proofs.lemmas.List.{append-nil}
-use mathlib.Core.Option.{some, some-injective, some-ne-none}
-use lib.ListN.{get_elem?}
-use Rattle.gts_circuits.specs.Cited.{AreDrained, Beginning, Drains, Engine, Entry, Ghosts as SinkMeanings, GivesNothing, HasLineCause, IsDrained, IsSent, LineStood, Outgoing, Quiet, SendEnd, SenderStands, Sends, SinkTook, Stands, StationMeanings, TakesAll, entries, entries_under, flat, fresh, sender_at, sender_name}
+use Rattle.gts_circuits.proofs.Cited.{◌≡◌, ◌≢◌, ◌⊎◌, inl, inr, ℕ, zero, suc, ◌+◌, ◌<◌, List, length, [], ◌∷◌, ◌++◌, refl, sym, ap, ◌∙◌, subst, arith, append_assoc, append-nil, some, some-injective, some-ne-none, get_elem?, AreDrained, Beginning, Drains, Engine, Entry, Ghosts as SinkMeanings, GivesNothing, HasLineCause, IsDrained, IsSent, LineStood, Outgoing, Quiet, SendEnd, SenderStands, Sends, SinkTook, Stands, StationMeanings, TakesAll, entries, entries_under, flat, fresh, sender_at, sender_name}
 use Rattle.gts_circuits.proofs.PastLemmas.{none_under, sender_differs, sender_more, sending_whole}
 use Rattle.gts_circuits.proofs.RestLemmas.{took_nothing, gives_still}
 

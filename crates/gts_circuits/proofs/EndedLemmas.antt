@@ -1,6 +1,5 @@
 -- What is known once all workers have come to their ends, and once the hall behind them is closed.
-use Rattle.std.proofs.Common.{◌≡◌, ◌*◌, ℕ, List, [], map, length, true, sym, ap, ◌∙◌, subst}
-use Rattle.gts_circuits.specs.Cited.{Accounts, AllJoined, AreGathered, Beginning, Entry, Ghosts as SinkMeanings, HaveEnded, Known, Line, LinesStand, MOST_TURNS, NamesAreJoined, NamesAreUpTo, Sockets, SourceMeanings, TableId, Work, ends, entries_under, works_of}
+use Rattle.gts_circuits.proofs.Cited.{◌≡◌, ◌*◌, ℕ, List, [], map, length, true, sym, ap, ◌∙◌, subst, Accounts, AllJoined, AreGathered, Beginning, Entry, Ghosts as SinkMeanings, HaveEnded, Known, Line, LinesStand, MOST_TURNS, NamesAreJoined, NamesAreUpTo, Sockets, SourceMeanings, TableId, Work, ends, entries_under, works_of}
 use Rattle.gts_circuits.proofs.StaffLemmas.{count_works, each_name, each_worker, each_ended}
 use Rattle.gts_circuits.proofs.GatheredLemmas.{all_stand, all_joined, names_up_to}
 

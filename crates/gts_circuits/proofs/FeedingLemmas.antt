@@ -1,11 +1,8 @@
 -- What a turn adds in which a connection is fed.
-use Rattle.std.proofs.Common.{◌≡◌, ℕ, Bool, true, List, [], ◌∷◌, length, refl, sym, subst, ◌∙◌, arith}
-use Rattle.gts_circuits.specs.Cited.{AddsFor, All, Beginning, Decoding, Engine, Entry, Event, FeedEnd, Feeding, Feeds, GoesFed, GoesOver, IsShortAt, IsSpent, Lost, Seen, SettlesFed, Spent, Standing, StationMeanings, Step, Wanting, all_of, entries, events_added, events_of_signs, is_event, settled, signs_of_step}
+use Rattle.gts_circuits.proofs.Cited.{◌≡◌, ℕ, Bool, true, List, [], ◌∷◌, length, refl, sym, subst, ◌∙◌, arith, AddsFor, All, Beginning, Decoding, Engine, Entry, Event, FeedEnd, Feeding, Feeds, GoesFed, GoesOver, IsShortAt, IsSpent, Lost, Seen, SettlesFed, Spent, Standing, StationMeanings, Step, Wanting, all_of, entries, events_added, events_of_signs, is_event, settled, signs_of_step, Reads, stands_settled}
 use Rattle.gts_calls.specs.declared.fed.FeedEnd.TheVariants.{Fault}
-use Rattle.gts_calls.specs.Cited.{Reads}
 use Rattle.gts_frame.specs.declared.step.Step.TheVariants as steps
 use Rattle.gts_event.specs.declared.event.Event.TheVariants as event
-use Rattle.gts_calls.proofs.GoingLemmas.{stands_settled}
 use Rattle.gts_circuits.proofs.GatheringLemmas.{M}
 
 module _ {P W : Type 0} (engine : W → Engine P) (makes : W → Bool) (station : StationMeanings P) (b : Beginning) where

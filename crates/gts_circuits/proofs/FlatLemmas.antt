@@ -1,9 +1,5 @@
 -- Histories of lists of entries, and the entries in them.
-use Rattle.std.proofs.Common.{◌≡◌, ℕ, ◌==◌, true, false, List, [], ◌∷◌, ◌++◌, refl, sym, ap, ◌∙◌, append_assoc}
-use Rattle.std.proofs.lemmas.List.{append-nil}
-use Rattle.gts_circuits.specs.Cited.{Entry, StartsWith, all_of, entries, entries_under, flat, under}
-use Rattle.std.proofs.lemmas.Grind.{common_steps}
-use Rattle.std.proofs.Common.{arith}
+use Rattle.gts_circuits.proofs.Cited.{◌≡◌, ℕ, ◌==◌, true, false, List, [], ◌∷◌, ◌++◌, refl, sym, ap, ◌∙◌, append_assoc, append-nil, Entry, StartsWith, all_of, entries, entries_under, flat, under, common_steps, arith}
 
 -- ---- histories
 

@@ -1,15 +1,10 @@
 -- What a circuit's receiver entered and what its sink took, over the whole history.
-use Rattle.std.proofs.Common.{◌≡◌, ℕ, ◌≤◌, List, [], ◌∷◌, ◌++◌, Bool, true, false, refl, sym, ap, ◌∙◌, arith, append_assoc}
-use Rattle.std.proofs.lemmas.List.{append-nil}
-use Rattle.std.proofs.lemmas.Bool.{false_from_ne_true as no_try}
-use Rattle.gts_circuits.specs.Cited.{AreMost, Beginning, BreaksOff, EnteredConnections, Entry, Idle, IsReceived, IsSent, Long, LostSync, MOST_TURNS, Part, ReceiveEnd, SendEnd, SourceFault, Taken, TookFrames, all_done, entries_under, fault_entries, goes_on, is_try, receiver_name, sender_name, takes, under}
-use Rattle.gts_receiver.specs.declared.end.ReceiveEnd.TheVariants.{Ended, Fault}
+use Rattle.gts_circuits.proofs.Cited.{◌≡◌, ℕ, ◌≤◌, List, [], ◌∷◌, ◌++◌, Bool, true, false, refl, sym, ap, ◌∙◌, arith, append_assoc, append-nil, false_from_ne_true as no_try, AreMost, Beginning, BreaksOff, EnteredConnections, Entry, Idle, IsReceived, IsSent, Long, LostSync, MOST_TURNS, Part, ReceiveEnd, SendEnd, SourceFault, Taken, TookFrames, all_done, entries_under, fault_entries, goes_on, is_try, receiver_name, sender_name, takes, under, Ended, Fault, under_all}
 use Rattle.gts_receiver.specs.Cited.{settled}
 use Rattle.gts_event.specs.declared.event.Entry.TheVariants.{Done}
 use Rattle.gts_sender.specs.declared.end.SendEnd.TheVariants as sending
 use Rattle.gts_circuits.proofs.FlatLemmas.{under-append}
 use Rattle.gts_circuits.proofs.PastLemmas.{none_behind, frames_whole}
-use Rattle.gts_calls.proofs.LawLemmas.{under_all}
 
 abbrev History : Type 0
 History = List (ℕ × Entry)

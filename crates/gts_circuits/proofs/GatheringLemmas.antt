@@ -1,9 +1,6 @@
 -- An engine in a hall gathers what a feed asks of it, whatever compactions are done meanwhile.
-use Rattle.std.proofs.Common.{◌≡◌, ℕ, ◌≤◌, ◌⊎◌, inl, inr, ⊎_elim, Bool, true, false, List, [], ◌∷◌, ◌++◌, length, Result, Ok, Err, refl, sym, ap, subst, ◌∙◌, arith, IsErrOf}
-use Rattle.std.proofs.lemmas.List.{append-nil, append_assoc}
-use Rattle.gts_circuits.specs.Cited.{AfterCall, AfterHearing, AfterSettling, Alone, AreCramped, AtOnce, Beginning, Behind, Caller, Directory, Disk, DiskFault, Done, Doubt, Engine, Entry, Event, Full, GathersCompacted, GathersNone, GathersOne, GathersPlain, HasCallCause, HasDoubt, HasUnsaid, Idle, IsAccepted, IsAnswerCause, IsAnswered, IsCrampedFor, IsCutShort, IsFullEither, IsGatheredWithRoom, IsHeard, IsInDoubt, IsOneMore, IsSettling, NoMemory, Origin, Outcome, Rose, Say, SayFault, Spent, Standing, State, StationMeanings, Stopped, SwitchFault, Unsaid, after_all, all_done, all_unsaid, housed_meanings, meanings_of, origin_with, outcome, outcome_at, outcome_behind, settled, state_at, used_at}
-use Rattle.gts_event.specs.Cited.{begun}
-use Rattle.gts_calls.proofs.HeardLemmas.{as_hearing}
+use Rattle.gts_circuits.proofs.Cited.{◌≡◌, ℕ, ◌≤◌, ◌⊎◌, inl, inr, ⊎_elim, Bool, true, false, List, [], ◌∷◌, ◌++◌, length, Result, Ok, Err, refl, sym, ap, subst, ◌∙◌, arith, IsErrOf, append-nil, AfterCall, AfterHearing, AfterSettling, Alone, AreCramped, AtOnce, Beginning, Behind, Caller, Directory, Disk, DiskFault, Done, Doubt, Engine, Entry, Event, Full, GathersCompacted, GathersNone, GathersOne, GathersPlain, HasCallCause, HasDoubt, HasUnsaid, Idle, IsAccepted, IsAnswerCause, IsAnswered, IsCrampedFor, IsCutShort, IsFullEither, IsGatheredWithRoom, IsHeard, IsInDoubt, IsOneMore, IsSettling, NoMemory, Origin, Outcome, Rose, Say, SayFault, Spent, Standing, State, StationMeanings, Stopped, SwitchFault, Unsaid, after_all, all_done, all_unsaid, housed_meanings, meanings_of, origin_with, outcome, outcome_at, outcome_behind, settled, state_at, used_at, begun, as_hearing}
+use Rattle.std.proofs.lemmas.List.{append_assoc}
 use Rattle.gts_circuits.proofs.StandingLemmas.{split_last, split_end, full_accepts, rose_on, rose_from, doubt_on, unsaid_on, still_on}
 
 module _ (b : Beginning) where

@@ -1,10 +1,9 @@
 -- What was done at each place of two parts was done at each place of the whole.
-use Rattle.std.proofs.Common.{◌≡◌, ℕ, ◌-◌, ◌<◌, ◌++◌, List, length, sym, ap, ◌∙◌, subst, arith}
+use Rattle.gts_circuits.proofs.Cited.{◌≡◌, ℕ, ◌-◌, ◌<◌, ◌++◌, List, length, sym, ap, ◌∙◌, subst, arith, cases_lt, get_or_append_left, get_or-append_right}
 use mathlib.Core.Logic.{⊎_elim}
 use mathlib.Core.Path.{refl}
 use lib.ListN.{get_or}
-use Rattle.std.proofs.lemmas.Bool.{cases_lt}
-use Rattle.std.proofs.lemmas.List.{length-append, get_or_append_left, get_or-append_right}
+use Rattle.std.proofs.lemmas.List.{length-append}
 
 module _ {A : Type 0} (Q : A → A → Type 0) where
   moved : (x x' y y' : A) → x' ≡ x → y' ≡ y → Q x y → Q x' y'

@@ -1,11 +1,6 @@
 -- Items of lists, by their places.
-use Rattle.std.proofs.Common.{◌≡◌, ◌≢◌, ℕ, zero, suc, ◌<◌, List, [], ◌∷◌, ◌++◌, length, length-append, ◌+◌, map, take, get_or, slice_set, Some, refl, sym, ap, ◌∙◌, arith, add-one, slice_get}
-use Rattle.std.proofs.lemmas.List.{map-append}
-use mathlib.Core.Option.{some}
-use lib.ListN.{get_elem?}
-use Rattle.gts_circuits.specs.Cited.{Circuit, CircuitRoom, Directory, PlaceSeen, place_asked, place_of}
+use Rattle.gts_circuits.proofs.Cited.{◌≡◌, ◌≢◌, ℕ, zero, suc, ◌<◌, List, [], ◌∷◌, ◌++◌, length, length-append, ◌+◌, map, take, get_or, slice_set, Some, refl, sym, ap, ◌∙◌, arith, add-one, slice_get, map-append, some, get_elem?, Circuit, CircuitRoom, Directory, PlaceSeen, place_asked, place_of, common_steps}
 use Rattle.gts_circuits.proofs.PlacesLemmas.{in_middle, map_at}
-use Rattle.std.proofs.lemmas.Grind.{common_steps}
 
 module _ {A : Type 0} where
   pub item_at : (xs : List A) (k : ℕ) (d : A) → k < length xs → get_elem? xs k ≡ some (get_or xs k d)

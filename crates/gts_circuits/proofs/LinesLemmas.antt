@@ -1,11 +1,7 @@
 -- Lines, circuit by circuit.
-use Rattle.std.proofs.Common.{◌≡◌, ◌≢◌, ◌⊎◌, inl, inr, ℕ, zero, suc, ◌+◌, ◌<◌, ◌≤◌, true, false, List, [], ◌∷◌, ◌++◌, length, refl, sym, ap, ◌∙◌, subst, arith}
-use Rattle.gts_circuits.specs.Cited.{AreOpened, CircuitBytes, CountsSockets, Ghosts as SinkMeanings, HasParts, Incoming, IsClosed, IsOpened, IsSame, LinesSeen, Outgoing, PlaceSeen, SameElsewhere, Sockets, SourceMeanings, first_connection}
-use mathlib.Core.Option.{some, some-injective, some-ne-none}
-use lib.ListN.{get_elem?}
+use Rattle.gts_circuits.proofs.Cited.{◌≡◌, ◌≢◌, ◌⊎◌, inl, inr, ℕ, zero, suc, ◌+◌, ◌<◌, ◌≤◌, true, false, List, [], ◌∷◌, ◌++◌, length, refl, sym, ap, ◌∙◌, subst, arith, AreOpened, CircuitBytes, CountsSockets, Ghosts as SinkMeanings, HasParts, Incoming, IsClosed, IsOpened, IsSame, LinesSeen, Outgoing, PlaceSeen, SameElsewhere, Sockets, SourceMeanings, first_connection, some, some-injective, some-ne-none, get_elem?, common_steps}
 use Rattle.gts_circuits.proofs.DrainLemmas.{same_or_not}
 use Rattle.gts_circuits.proofs.PlacesLemmas.{at_less}
-use Rattle.std.proofs.lemmas.Grind.{common_steps}
 
 abbrev pub Elsewhere : ℕ → LinesSeen → LinesSeen → Type 0
 Elsewhere c m n = SameElsewhere c m.is_open m.faults m.place m.bytes n.is_open n.faults n.place n.bytes

@@ -1,10 +1,7 @@
 -- The sockets of all lines, once the workers have ended.
-use Rattle.std.proofs.Common.{◌≡◌, ℕ, zero, suc, ◌+◌, ◌*◌, ◌<◌, ◌≤◌, true, false, List, [], ◌∷◌, ◌++◌, length, length-append, map, Option, Some, None, refl, sym, ap, ◌∙◌, subst, arith, append_assoc}
-use Rattle.std.proofs.lemmas.List.{append-nil}
-use Rattle.gts_circuits.specs.Cited.{AllStand, AreOpened, Beginning, Begun, EndsWithin, Entry, Ghosts as SinkMeanings, GoesThrough, Incoming, IsOpened, Known, KnowsOwn, Line, LinesSeen, MOST_TURNS, Outgoing, Part, PassKeeps, Passes, PlaceSeen, Reads, ReceiverKeeps, ReceiverStands, Receives, Seen, SenderKeeps, SenderStands, Sends, Sockets, SourceMeanings, StartsWith, TableId, Tells, Work, Writes, all_of, behind, ends, entries_under, first_connection, flat, fresh, given_before, has_end, incoming_of, outgoing_of, receiver_name, receivers_of, seen_at, seen_by, sender_name, senders_of, sink_of, source_of, works_of}
+use Rattle.gts_circuits.proofs.Cited.{◌≡◌, ℕ, zero, suc, ◌+◌, ◌*◌, ◌<◌, ◌≤◌, true, false, List, [], ◌∷◌, ◌++◌, length, length-append, map, Option, Some, None, refl, sym, ap, ◌∙◌, subst, arith, append_assoc, append-nil, AllStand, AreOpened, Beginning, Begun, EndsWithin, Entry, Ghosts as SinkMeanings, GoesThrough, Incoming, IsOpened, Known, KnowsOwn, Line, LinesSeen, MOST_TURNS, Outgoing, Part, PassKeeps, Passes, PlaceSeen, ReceiverKeeps, ReceiverStands, Receives, Seen, SenderKeeps, SenderStands, Sends, Sockets, SourceMeanings, StartsWith, TableId, Tells, Work, Writes, all_of, behind, ends, entries_under, first_connection, flat, fresh, given_before, has_end, incoming_of, outgoing_of, receiver_name, receivers_of, seen_at, seen_by, sender_name, senders_of, sink_of, source_of, works_of, some, some-injective, some-ne-none, get_elem?}
+use Rattle.gts_circuits.specs.Cited.{Reads}
 use Rattle.gts_circuits.specs.Gathering.{Stands}
-use mathlib.Core.Option.{some, some-injective, some-ne-none}
-use lib.ListN.{get_elem?}
 use Rattle.gts_circuits.proofs.HousedLawLemmas.{starts_flat, under_flat}
 use Rattle.gts_circuits.specs.declared.workers.line.Line.TheVariants as lines
 use Rattle.gts_circuits.proofs.PlacesLemmas.{at_longer, at_behind, at_less, there, map_at}

@@ -1,11 +1,7 @@
 -- One line more, and the last of some circuits.
-use Rattle.std.proofs.Common.{◌≡◌, ℕ, ◌+◌, true, List, [], ◌∷◌, ◌++◌, Option, Some, None, sym, ap, ◌∙◌, append_assoc}
-use Rattle.std.proofs.lemmas.List.{append-nil}
-use Rattle.gts_circuits.specs.Cited.{Decoding, Given, Incoming, Line, Outgoing, ReceiveEnd, SendEnd, ServeEnd, first_fault, has_end, incoming_of, is_some, outgoing_of, receiver_first, sender_first}
+use Rattle.gts_circuits.proofs.Cited.{◌≡◌, ℕ, ◌+◌, true, List, [], ◌∷◌, ◌++◌, Option, Some, None, sym, ap, ◌∙◌, append_assoc, append-nil, Decoding, Given, Incoming, Line, Outgoing, ReceiveEnd, SendEnd, ServeEnd, first_fault, has_end, incoming_of, is_some, outgoing_of, receiver_first, sender_first, common_steps, arith}
 use Rattle.gts_circuits.specs.declared.workers.line.Line.TheVariants as lines
 use Rattle.gts_circuits.proofs.PartedLemmas.{incoming-append, outgoing-append, no_end}
-use Rattle.std.proofs.lemmas.Grind.{common_steps}
-use Rattle.std.proofs.Common.{arith}
 
 module _ {S K : Type 0} where
   pub source_ended : (l : Line S K) (source : S) (connections : ℕ) (decoder : Decoding) (end : Option ReceiveEnd) → l ≡ lines.Incoming source connections decoder end → end ≡ None → has_end l ≡ true → ⊥

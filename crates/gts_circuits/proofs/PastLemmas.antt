@@ -1,13 +1,6 @@
 -- Entries under a name, and what stays so of a worker that has ended while the history goes on.
-use Rattle.std.proofs.Common.{◌≡◌, ◌≢◌, ℕ, ◌≤◌, ◌==◌, suc, length, List, [], ◌∷◌, ◌++◌, Bool, true, false, cond, refl, sym, ap, ◌∙◌, arith, append_assoc}
-use Rattle.std.proofs.lemmas.Bool.{eqb-true}
-use Rattle.gts_circuits.specs.Cited.{Beginning, Directory, EndsWithin, Entry, Ghosts as SinkMeanings, IsReceived, IsSent, Outgoing, Part, ReceiveEnd, SendEnd, SenderStands, Sending, State, TableId, after_all, after_entry, entries, entries_under, frame_of, frames, fresh, receiver_name, seen_at, sender_at, sender_name}
-use Rattle.gts_event.specs.Cited.{begun}
-use Rattle.std.proofs.lemmas.List.{append-nil, append_cancel_left}
+use Rattle.gts_circuits.proofs.Cited.{◌≡◌, ◌≢◌, ℕ, ◌≤◌, ◌==◌, suc, length, List, [], ◌∷◌, ◌++◌, Bool, true, false, cond, refl, sym, ap, ◌∙◌, arith, append_assoc, eqb-true, Beginning, Directory, EndsWithin, Entry, Ghosts as SinkMeanings, IsReceived, IsSent, Outgoing, Part, ReceiveEnd, SendEnd, SenderStands, Sending, State, TableId, after_all, after_entry, entries, entries_under, frame_of, frames, fresh, receiver_name, seen_at, sender_at, sender_name, begun, append-nil, append_cancel_left, some, get_elem?, common_steps}
 use Rattle.gts_circuits.proofs.FlatLemmas.{under-append}
-use mathlib.Core.Option.{some}
-use lib.ListN.{get_elem?}
-use Rattle.std.proofs.lemmas.Grind.{common_steps}
 
 abbrev History : Type 0
 History = List (ℕ × Entry)

@@ -1,13 +1,7 @@
 -- Where a take gives nothing, and what takes on other circuits leave of that.
-use Rattle.std.proofs.Common.{◌≡◌, ◌≢◌, Bool, ℕ, suc, List, [], ◌∷◌, ◌++◌, refl, ap, ◌∙◌}
-use Rattle.std.proofs.lemmas.List.{get_or-set_other}
-use Rattle.gts_circuits.specs.Cited.{AreTakes, Beginning, Choice, CircuitState, Directory, Doubt, Draw, Draws, Entry, Event, GivesNothing, Idle, IsTake, Nothing, Nothing_waits, Outcome, Repeats, Resend, Restarted, State, TableId, Taken, TookLast, Unsaid, after, after_all, after_entry, after_take, choice, choice_of, draws, entries, idle, next, on_circuit, outcome, seen_at, state_at, waiting, with_circuit, with_drawn, with_repeated}
-use Rattle.gts_event.specs.Cited.{begun}
+use Rattle.gts_circuits.proofs.Cited.{◌≡◌, ◌≢◌, Bool, ℕ, suc, List, [], ◌∷◌, ◌++◌, refl, ap, ◌∙◌, get_or-set_other, AreTakes, Beginning, Choice, CircuitState, Directory, Doubt, Draw, Draws, Entry, Event, GivesNothing, Idle, IsTake, Nothing, Nothing_waits, Outcome, Repeats, Resend, Restarted, State, TableId, Taken, TookLast, Unsaid, after, after_all, after_entry, after_take, choice, choice_of, draws, entries, idle, next, on_circuit, outcome, seen_at, state_at, waiting, with_circuit, with_drawn, with_repeated, begun, after_all-append, nothing_left, common_steps, arith}
 use Rattle.gts_event.specs.declared.event.Entry.TheVariants.{Done}
-use Rattle.gts_event.proofs.LawLemmas.{after_all-append, nothing_left}
 use Rattle.gts_circuits.proofs.FlatLemmas.{entries-append}
-use Rattle.std.proofs.lemmas.Grind.{common_steps}
-use Rattle.std.proofs.Common.{arith}
 
 abbrev leads_to : Choice → Outcome
 leads_to x = elim x [ Repeats index ↦ Resend index | Draws index position ↦ Draw index | Nothing_waits ↦ Nothing ]

@@ -1,8 +1,5 @@
 -- What is known once all workers have ended, of what opening their lines left and what closing the hall says of each.
-use Rattle.std.proofs.Common.{◌≡◌, ℕ, ◌*◌, ◌<◌, ◌≤◌, true, List, length, arith}
-use mathlib.Core.Option.{some}
-use lib.ListN.{get_elem?}
-use Rattle.gts_circuits.specs.Cited.{AreOpened, Beginning, Entry, Ghosts as SinkMeanings, Incoming, Line, LinesSeen, LinesStand, MOST_TURNS, Outgoing, PlaceSeen, ReceiverStands, SenderStands, Sockets, SourceMeanings, TableId, flat, has_end, incoming_of, outgoing_of}
+use Rattle.gts_circuits.proofs.Cited.{◌≡◌, ℕ, ◌*◌, ◌<◌, ◌≤◌, true, List, length, arith, some, get_elem?, AreOpened, Beginning, Entry, Ghosts as SinkMeanings, Incoming, Line, LinesSeen, LinesStand, MOST_TURNS, Outgoing, PlaceSeen, ReceiverStands, SenderStands, Sockets, SourceMeanings, TableId, flat, has_end, incoming_of, outgoing_of}
 use Rattle.gts_circuits.proofs.PlacesLemmas.{there}
 use Rattle.gts_circuits.proofs.PartedLemmas.{parted, all_ended}
 

@@ -1,16 +1,10 @@
 -- Takes behind the threads, as those of the sender of their circuit.
-use Rattle.std.proofs.Common.{◌≡◌, ℕ, zero, suc, List, length, [], ◌∷◌, ◌++◌, Bool, Some, Result, Ok, Err, refl, sym, ap, ◌∙◌, subst, arith, append_assoc, length-append}
-use Rattle.std.proofs.lemmas.List.{append-nil}
-use mathlib.Core.Option.{some-injective, some-ne-none}
-use Rattle.gts_circuits.specs.Cited.{Answers, AreTakes, Beginning, DiskFault, Engine, Entry, Full, IsTake, Known, LeavesFrame, Never, NoMemory, Outcome, SayFault, Seen, SendEnd, Sending, Spent, Stands, StationMeanings, Stopped, SwitchFault, TableId, Taken, TakesOnce, Tried, Turns, WroteGiven, after_adding, all_of, entries, entries_under, entry_by, flat, seen_at, seen_by, sender_at, sender_name}
-use Rattle.gts_circuits.specs.Standing.{Takes, TakesSome}
+use Rattle.gts_circuits.proofs.Cited.{◌≡◌, ℕ, zero, suc, List, length, [], ◌∷◌, ◌++◌, Bool, Some, Result, Ok, Err, refl, sym, ap, ◌∙◌, subst, arith, append_assoc, length-append, append-nil, some-injective, some-ne-none, Answers, AreTakes, Beginning, DiskFault, Engine, Entry, Full, IsTake, Known, LeavesFrame, Never, NoMemory, Outcome, SayFault, Seen, SendEnd, Sending, Spent, Stands, StationMeanings, Stopped, SwitchFault, TableId, Taken, TakesOnce, Tried, Turns, WroteGiven, after_adding, all_of, entries, entries_under, entry_by, flat, seen_at, seen_by, sender_at, sender_name, Takes, TakesSome, given, failed, under_all}
 use Rattle.gts_sender.specs.declared.end.SendEnd.TheVariants.{Fault}
 use Rattle.gts_circuits.proofs.HousedLawLemmas as desk
 use Rattle.gts_circuits.proofs.HousedLawLemmas.{entries_flat, flat_one}
-use Rattle.gts_sender.proofs.LawLemmas.{given, failed}
 use Rattle.gts_circuits.proofs.FlatLemmas.{entries-append, under-append}
 use Rattle.gts_circuits.proofs.TurnsLemmas.{as_turns, flat_turns, count_turns}
-use Rattle.gts_calls.proofs.LawLemmas.{under_all}
 
 by_take : (c : ℕ) (result : Result Outcome SwitchFault) → IsTake c (entry_by (Taken c) result)
 by_take c (Ok o) = refl

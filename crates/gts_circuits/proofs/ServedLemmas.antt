@@ -1,13 +1,8 @@
 -- What a run of all circuits leaves, of what opening, the threads, the takes behind them and closing leave.
-use Rattle.std.proofs.Common.{◌≡◌, ◌⊎◌, inl, inr, ℕ, zero, suc, ◌+◌, ◌-◌, ◌*◌, ◌<◌, ◌≤◌, ◌==◌, Bool, true, false, not, cond, List, [], ◌∷◌, ◌++◌, length, map, length-append, refl, sym, ap, ◌∙◌, subst, arith}
-use Rattle.std.proofs.lemmas.Bool.{eq-eqb, cases_lt}
-use Rattle.std.proofs.lemmas.List.{append_cancel_right}
-use Rattle.gts_circuits.specs.Cited.{AreOpened, AreOver, Beginning, Begun, Circuit, Directory, Engine, Entry, Event, Ghosts as SinkMeanings, HasNoPorts, HasPlace, HavePassed, Incoming, IsAtRest, IsClosed, IsDoneIn, IsFinished, IsHandedBack, IsOpened, IsOver, IsReceived, IsSame, IsSent, IsShutIfClosed, Line, LineStood, LinesSeen, Long, LostSync, MOST_TURNS, NamesAreUpTo, Outgoing, Part, PlaceSeen, ReceiveEnd, Receiver, ReceiverStands, Rose, SendEnd, Sender, ServeEnd, Serves, ServesCircuit, Sockets, SourceFault, SourceMeanings, StationMeanings, StopsAtOpening, Taken, Tells, TookFrames, WentThroughAll, all_done, ends_of, entries, entries_under, events_over, filter, first_fault, flat, goes_on, incoming_of, is_try, on_circuit, outgoing_of, place_of, receiver_first, receiver_name, sender_first, sender_name, state_at, takes, waiting}
+use Rattle.gts_circuits.proofs.Cited.{◌≡◌, ◌⊎◌, inl, inr, ℕ, zero, suc, ◌+◌, ◌-◌, ◌*◌, ◌<◌, ◌≤◌, ◌==◌, Bool, true, false, not, cond, List, [], ◌∷◌, ◌++◌, length, map, length-append, refl, sym, ap, ◌∙◌, subst, arith, cases_lt, append_cancel_right, AreOpened, AreOver, Beginning, Begun, Circuit, Directory, Engine, Entry, Event, Ghosts as SinkMeanings, HasNoPorts, HasPlace, HavePassed, Incoming, IsAtRest, IsClosed, IsDoneIn, IsFinished, IsHandedBack, IsOpened, IsOver, IsReceived, IsSame, IsSent, IsShutIfClosed, Line, LineStood, LinesSeen, Long, LostSync, MOST_TURNS, NamesAreUpTo, Outgoing, Part, PlaceSeen, ReceiveEnd, Receiver, ReceiverStands, Rose, SendEnd, Sender, ServeEnd, Serves, ServesCircuit, Sockets, SourceFault, SourceMeanings, StationMeanings, StopsAtOpening, Taken, Tells, TookFrames, WentThroughAll, all_done, ends_of, entries, entries_under, events_over, filter, first_fault, flat, goes_on, incoming_of, is_try, on_circuit, outgoing_of, place_of, receiver_first, receiver_name, sender_first, sender_name, state_at, takes, waiting, Ended, Fault, some, some-injective, some-ne-none, get_elem?, common_steps}
+use Rattle.std.proofs.lemmas.Bool.{eq-eqb}
 use Rattle.gts_circuits.specs.declared.service.end.ServeEnd.TheVariants.{Done}
-use Rattle.gts_receiver.specs.declared.end.ReceiveEnd.TheVariants.{Ended, Fault}
 use Rattle.gts_receiver.specs.Cited.{settled}
-use mathlib.Core.Option.{some, some-injective, some-ne-none}
-use lib.ListN.{get_elem?}
 use Rattle.gts_event.specs.declared.event.Entry.TheVariants as of_entry
 use Rattle.gts_sender.specs.declared.end.SendEnd.TheVariants as sending
 use Rattle.gts_circuits.proofs.PlacesLemmas.{at_less, in_middle, there, halved}
@@ -17,7 +12,6 @@ use Rattle.gts_circuits.proofs.DrainLemmas.{in_both}
 use Rattle.gts_circuits.proofs.RestLemmas.{nothing_there}
 use Rattle.gts_circuits.proofs.StandingLemmas.{rose_from}
 use Rattle.gts_circuits.proofs.TurnsLemmas.{named_flat}
-use Rattle.std.proofs.lemmas.Grind.{common_steps}
 
 -- ---- ends
 

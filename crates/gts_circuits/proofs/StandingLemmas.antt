@@ -1,10 +1,7 @@
 -- What an engine stands for, with the entry that a call adds.
-use Rattle.std.proofs.Common.{◌≡◌, ◌≢◌, ◌⊎◌, inl, inr, ⊎_elim, ℕ, ◌+◌, ◌≤◌, true, false, List, [], ◌∷◌, ◌++◌, length, Option, Some, None, Result, Ok, Err, refl, sym, ap, subst, ◌∙◌, arith, length-append, IsErrOf, IfOk, IfSome}
-use Rattle.gts_circuits.specs.Cited.{Accepted, Adds, AreCramped, Asked, Beginning, Caller, Choice, Device, Directory, DiskFault, Doubt, Draw, Draws, Duplicate, Engine, Entry, Event, Full, HasDoubt, HasStationCause, HasUnsaid, HearsWithRoom, Idle, IsAccepted, IsCalled, IsCrampedFor, Keeps, LeavesFrame, LineLost, NoMemory, Nothing, Nothing_waits, Origin, Outcome, Outside, Refused, Repeats, Resend, Rose, SayFault, Says, Spent, Stands, State, StationMeanings, Stopped, SwitchFault, Taken, Unsaid, after, after_all, channel_bytes, choice, entry_by, entry_of, frame_of_draw, meanings_of, on, origin_with, outcome, room, shown, spoken, state_at, used_at}
+use Rattle.gts_circuits.proofs.Cited.{◌≡◌, ◌≢◌, ◌⊎◌, inl, inr, ⊎_elim, ℕ, ◌+◌, ◌≤◌, true, false, List, [], ◌∷◌, ◌++◌, length, Option, Some, None, Result, Ok, Err, refl, sym, ap, subst, ◌∙◌, arith, length-append, IsErrOf, IfOk, Accepted, Adds, AreCramped, Asked, Beginning, Caller, Choice, Device, Directory, DiskFault, Doubt, Draw, Draws, Duplicate, Engine, Entry, Event, Full, HasDoubt, HasStationCause, HasUnsaid, HearsWithRoom, Idle, IsAccepted, IsCalled, IsCrampedFor, Keeps, LeavesFrame, LineLost, NoMemory, Nothing, Nothing_waits, Origin, Outcome, Outside, Refused, Repeats, Resend, Rose, SayFault, Says, Spent, Stands, State, StationMeanings, Stopped, SwitchFault, Taken, Unsaid, after, after_all, channel_bytes, choice, entry_by, entry_of, frame_of_draw, meanings_of, on, origin_with, outcome, room, shown, spoken, state_at, used_at, begun, channel_bytes-on, common_steps}
+use Rattle.std.proofs.Common.{IfSome}
 use Rattle.std.proofs.lemmas.List.{append_assoc}
-use Rattle.gts_event.specs.Cited.{begun}
-use Rattle.gts_traits.proofs.LawLemmas.{channel_bytes-on}
-use Rattle.std.proofs.lemmas.Grind.{common_steps}
 
 -- ---- the last of a list
 

@@ -1,15 +1,9 @@
 -- Several takes on one circuit, one behind another in one turn.
-use Rattle.std.proofs.Common.{◌≡◌, ◌≢◌, inl, inr, ℕ, zero, suc, ◌+◌, ◌≤◌, Bool, true, false, List, [], ◌∷◌, ◌++◌, length, map, replicate, Some, None, Result, Ok, Err, refl, sym, ap, subst, ◌∙◌, arith, length-append, IsErrOf, slice_index_or}
-use Rattle.std.proofs.lemmas.List.{append-nil, replicate_more}
-use Rattle.std.proofs.lemmas.Option.{get_or_from_slice_get, slice_get-map}
-use Rattle.std.specs.Prelude.{IfSome, Option, drop, option_map, slice_get}
-use Rattle.gts_calls.specs.Cited.{frames_in}
-use Rattle.gts_circuits.specs.Cited.{Accepted, AddsTaken, AfterCall, AfterSettling, Alone, AreTaken, Asked, AtOnce, Beginning, Behind, Caller, Circuit, Device, Directory, DiskFault, Done, Doubt, Draw, Duplicate, Engine, Entry, Event, Frame, Full, GathersOne, Gave, GaveAll, HasStationCause, HasTaken, Holds, Idle, IsAnswered, IsOneMore, IsSettling, LeavesFrame, LeavesTaken, LineLost, NoMemory, Nothing, Origin, Outcome, Refused, Resend, SayFault, Says, Spent, Stands, StandsWith, State, StationMeanings, Stopped, SwitchFault, Taken, TakesBehind, after, after_all, after_takes, all_done, count_of, frame_of_draw, frames_by, given_index, gives, joined, meanings_of, origin_with, outcome, shown, state_at, state_behind, takes, used_at}
+use Rattle.gts_circuits.proofs.Cited.{◌≡◌, ◌≢◌, inl, inr, ℕ, zero, suc, ◌+◌, ◌≤◌, Bool, true, false, List, [], ◌∷◌, ◌++◌, length, map, replicate, Some, None, Result, Ok, Err, refl, sym, ap, subst, ◌∙◌, arith, length-append, IsErrOf, slice_index_or, append-nil, replicate_more, get_or_from_slice_get, slice_get-map, IfSome, option_map, frames_in, Accepted, AddsTaken, AfterCall, AfterSettling, Alone, AreTaken, Asked, AtOnce, Beginning, Behind, Caller, Circuit, Device, Directory, DiskFault, Done, Doubt, Draw, Duplicate, Engine, Entry, Event, Frame, Full, GathersOne, Gave, GaveAll, HasStationCause, HasTaken, Holds, Idle, IsAnswered, IsOneMore, IsSettling, LeavesFrame, LeavesTaken, LineLost, NoMemory, Nothing, Origin, Outcome, Refused, Resend, SayFault, Says, Spent, Stands, StandsWith, State, StationMeanings, Stopped, SwitchFault, Taken, TakesBehind, after, after_all, after_takes, all_done, count_of, frame_of_draw, frames_by, given_index, gives, joined, meanings_of, origin_with, outcome, shown, state_at, state_behind, takes, used_at, begun, common_steps}
+use Rattle.std.specs.Prelude.{Option, drop, slice_get}
 use Rattle.gts_engine.specs.Cited.{AreGathered}
-use Rattle.gts_event.specs.Cited.{begun}
 use Rattle.gts_circuits.proofs.StandingLemmas.{leads_to, rose_on, full_accepts, frame_said, takes_accept_nothing}
 use Rattle.gts_circuits.proofs.GatheringLemmas.{M, answered, settles}
-use Rattle.std.proofs.lemmas.Grind.{common_steps}
 
 -- ---- what a take came to
 

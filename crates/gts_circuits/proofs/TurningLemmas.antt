@@ -1,7 +1,6 @@
 -- What a turn makes of its pass.
-use Rattle.std.proofs.Common.{◌≡◌, inl, ℕ, ◌+◌, Bool, true, false, List, [], ◌∷◌, ◌++◌, length, replicate, Result, Ok, Err, refl, sym, ap, subst, ◌∙◌, length-append}
-use Rattle.std.proofs.lemmas.List.{append-nil, append_cancel_left}
-use Rattle.gts_circuits.specs.Cited.{AddsAll, AddsAny, AddsEntries, AddsFed, AddsTaken, All, Answers, Beginning, DeskTakes, DiskFault, Done, Doubt, Engine, Entry, Event, FeedEnd, Feeds, Frame, Full, GaveAll, GaveNoMore, Idle, IsCaused, IsTurn, Known, KnowsOwn, LeavesFrame, Lost, NoMemory, Outcome, SayFault, Seen, Spent, Stands, StartsWith, State, StationMeanings, Stopped, SwitchFault, Taken, TakesSome, Unsaid, Wanting, after_adding, after_seeing, all_of, entries, entries_under, entry_by, flat, history_of, outcome, seen_by, state_at, takes, under}
+use Rattle.gts_circuits.proofs.Cited.{◌≡◌, inl, ℕ, ◌+◌, Bool, true, false, List, [], ◌∷◌, ◌++◌, length, replicate, Result, Ok, Err, refl, sym, ap, subst, ◌∙◌, length-append, append-nil, append_cancel_left, AddsAll, AddsAny, AddsEntries, AddsFed, AddsTaken, All, Answers, Beginning, DeskTakes, DiskFault, Done, Doubt, Engine, Entry, Event, FeedEnd, Feeds, Frame, Full, GaveAll, GaveNoMore, Idle, IsCaused, IsTurn, Known, KnowsOwn, LeavesFrame, Lost, NoMemory, Outcome, SayFault, Seen, Spent, Stands, StartsWith, State, StationMeanings, Stopped, SwitchFault, Taken, Unsaid, Wanting, after_adding, after_seeing, all_of, entries, entries_under, entry_by, flat, history_of, outcome, seen_by, state_at, takes, under}
+use Rattle.gts_circuits.specs.Cited.{TakesSome}
 use Rattle.gts_calls.specs.declared.fed.FeedEnd.TheVariants.{Fault}
 use Rattle.gts_circuits.specs.Housed as housed
 use Rattle.gts_circuits.proofs.FlatLemmas.{entries-append, under-append, all_of_one, flat-append, flat_one, entries_flat, under_flat}

@@ -1,11 +1,6 @@
 -- Turns of a hall, and the entries that they added.
-use Rattle.std.proofs.Common.{◌≡◌, ◌≤◌, ◌<◌, ℕ, zero, suc, length, List, [], ◌∷◌, inl, inr, map, refl, sym, ap, subst}
-use mathlib.Core.Option.{some, some-injective, some-ne-none}
-use lib.ListN.{get_elem?}
-use Rattle.gts_circuits.specs.Cited.{Entry, NamesAreUpTo, entries_under, flat, under}
+use Rattle.gts_circuits.proofs.Cited.{◌≡◌, ◌≤◌, ◌<◌, ℕ, zero, suc, length, List, [], ◌∷◌, inl, inr, map, refl, sym, ap, subst, some, some-injective, some-ne-none, get_elem?, Entry, NamesAreUpTo, entries_under, flat, under, common_steps, arith}
 use Rattle.gts_circuits.proofs.DrainLemmas.{in_both}
-use Rattle.std.proofs.lemmas.Grind.{common_steps}
-use Rattle.std.proofs.Common.{arith}
 
 -- ---- the names
 

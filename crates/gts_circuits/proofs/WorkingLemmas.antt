@@ -1,6 +1,6 @@
 -- What receivers and senders leave of their passes.
-use Rattle.std.proofs.Common.{ℕ, List}
-use Rattle.gts_circuits.specs.Cited.{Fault, GoesOn, LineFault, Quiet, Seen, SendEnd, Sends}
+use Rattle.gts_circuits.proofs.Cited.{ℕ, List, GoesOn, LineFault, Quiet, Seen, SendEnd, Sends}
+use Rattle.gts_circuits.specs.Cited.{Fault}
 
 -- a sender's history goes on, however it ends
 pub sends-on : (c : ℕ) (old new : Seen) (bytes : List ℕ) (end : SendEnd) → Sends c old new bytes end → GoesOn old new

@@ -1,11 +1,6 @@
 -- Captures that differ only in how feeds are cut have the same entries.
-use Rattle.std.proofs.Common.{◌≡◌, ℕ, ◌<◌, List, [], ◌∷◌, ◌++◌, length, get_or, refl, sym, ap, ◌∙◌, arith}
-use Rattle.std.proofs.lemmas.Bool.{eqb-true}
-use Rattle.std.proofs.lemmas.List.{append_assoc, map-append, set-set, get_or-set_same, length-set, length-map}
-use Rattle.gts_connection.specs.Cited.{AreSteps, Compact, Connections, Directory, Drain, Entry, Feed, Reopen, Restart, State, Step, Take, after_all, after_step, entries, entries_from, entries_of_step, join, joined, no_bytes}
+use Rattle.gts_connection.proofs.Cited.{◌≡◌, ℕ, ◌<◌, List, [], ◌∷◌, ◌++◌, length, get_or, refl, sym, ap, ◌∙◌, arith, eqb-true, append_assoc, map-append, set-set, get_or-set_same, length-set, length-map, AreSteps, Compact, Connections, Directory, Drain, Entry, Feed, Reopen, Restart, State, Step, Take, after_all, after_step, entries, entries_from, entries_of_step, join, joined, no_bytes, after_all-append, common_steps}
 use Rattle.gts_connection.proofs.StreamLemmas.{added-twice}
-use Rattle.gts_event.proofs.LawLemmas.{after_all-append}
-use Rattle.std.proofs.lemmas.Grind.{common_steps}
 
 -- one feed or two
 cut_feed : (d : Directory) (s : State) (bs : Connections) (c : ℕ) (x y : List ℕ) (steps : List Step) → c < length bs

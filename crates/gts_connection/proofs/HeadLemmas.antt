@@ -1,9 +1,5 @@
 -- Heads of captures are told apart, and whether one stands at the front is decided.
-use Rattle.std.proofs.Common.{◌≡◌, ℕ, zero, suc, ◌<◌, ◌≤◌, Bool, true, false, ◌⊎◌, nat_eq, List, [], ◌∷◌, ◌++◌, length, get_or, take, drop, inl, inr, refl, sym, ap, subst, ◌∙◌, arith}
-use Rattle.gts_connection.specs.Cited.{CaptureKind, CompactHead, Directory, DrainHead, EndHead, FeedHead, Head, IsHeadFront, IsHeadOf, Journaled, ReopenHead, RestartHead, TakeHead, Traffic, dec, digits_value, head_text, starts_with}
-use Rattle.std.proofs.lemmas.Bool.{cases_lt, cases_Bool}
-use Rattle.std.proofs.lemmas.List.{length-append, append-nil}
-use Rattle.gts_alphabet.proofs.LawLemmas.{digits_value-dec}
+use Rattle.gts_connection.proofs.Cited.{◌≡◌, ℕ, zero, suc, ◌<◌, ◌≤◌, Bool, true, false, ◌⊎◌, nat_eq, List, [], ◌∷◌, ◌++◌, length, get_or, take, drop, inl, inr, refl, sym, ap, subst, ◌∙◌, arith, CaptureKind, CompactHead, Directory, DrainHead, EndHead, FeedHead, Head, IsHeadFront, IsHeadOf, Journaled, ReopenHead, RestartHead, TakeHead, Traffic, dec, digits_value, head_text, starts_with, cases_lt, cases_Bool, length-append, append-nil, digits_value-dec}
 use Rattle.gts_connection.proofs.ListLemmas.{starts_with-append, starts_is}
 
 -- ---- lists

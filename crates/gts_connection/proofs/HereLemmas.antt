@@ -1,8 +1,5 @@
 -- The entries of a capture come on circuits of the directory.
-use Rattle.std.proofs.Common.{◌≡◌, ℕ, zero, suc, ◌+◌, Bool, true, nat_lt, List, [], ◌∷◌, ◌++◌, length, get_or, drop, replicate, Option, Some, None, refl, ap, ◌∙◌}
-use Rattle.gts_connection.specs.Cited.{AreStepsOf, CaptureKind, Compact, Connections, Directory, Drain, Entry, Event, Feed, Frame, FrameField, IsHeadOf, KeepAlive, Piece, Reopen, Restart, State, Step, Take, Taken, after_all, after_step, all_done, circuit_of_event, connection, entries, entries_from, entries_of_step, events_added, events_of, head_of, is_here, left_to_give, list_all, loss_of, no_bytes, on_circuit}
-use Rattle.std.proofs.lemmas.Bool.{and_parts, and_from, lt-ltb}
-use Rattle.std.proofs.lemmas.List.Folds.{list_all-append}
+use Rattle.gts_connection.proofs.Cited.{◌≡◌, ℕ, zero, suc, ◌+◌, Bool, true, nat_lt, List, [], ◌∷◌, ◌++◌, length, get_or, drop, replicate, Option, Some, None, refl, ap, ◌∙◌, AreStepsOf, CaptureKind, Compact, Connections, Directory, Drain, Entry, Event, Feed, Frame, FrameField, IsHeadOf, KeepAlive, Piece, Reopen, Restart, State, Step, Take, Taken, after_all, after_step, all_done, circuit_of_event, connection, entries, entries_from, entries_of_step, events_added, events_of, head_of, is_here, left_to_give, list_all, loss_of, no_bytes, on_circuit, and_parts, and_from, lt-ltb, list_all-append}
 use Rattle.gts_connection.proofs.StreamLemmas.{connection-is}
 
 -- an event comes on a circuit below this number

@@ -1,3 +1,4 @@
+mod Cited
 pub mod ListLemmas
 pub mod StreamLemmas
 pub mod StepsLemmas

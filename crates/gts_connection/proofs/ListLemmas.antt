@@ -1,9 +1,5 @@
 -- Lists that begin with others.
-use Rattle.std.proofs.Common.{◌≡◌, ℕ, true, nat_eq, List, ◌++◌, length, take, drop, sym, ap, ◌∙◌}
-use Rattle.gts_connection.specs.Cited.{pointwise, same_text, starts_with}
-use Rattle.std.proofs.lemmas.List.{take-append-drop}
-use Rattle.std.proofs.Math.Seq.{take-append_seam}
-use Rattle.gts_frame.proofs.LawLemmas.{same_bytes}
+use Rattle.gts_connection.proofs.Cited.{◌≡◌, ℕ, true, nat_eq, List, ◌++◌, length, take, drop, sym, ap, ◌∙◌, pointwise, same_text, starts_with, take-append-drop, take-append_seam, same_bytes}
 
 pub starts_with-append : (xs ys : List ℕ) → starts_with nat_eq (xs ++ ys) xs ≡ true
 starts_with-append xs ys = ap (pointwise nat_eq xs) (take-append_seam xs ys) ∙ same_bytes xs

@@ -1,8 +1,6 @@
 -- No byte behind the longest capture is read.
-use Rattle.std.proofs.Common.{◌≡◌, ℕ, ◌+◌, ◌-◌, ◌≤◌, List, ◌++◌, length, take, min, ap, ◌∙◌, arith, length-append}
-use Rattle.gts_connection.specs.Cited.{Bad, CaptureKind, Directory, EndHead, EndsEarlyOf, EndsInFeed, EndsInHead, IsWholeOf, LONGEST_CAPTURE, ReadingOf, Step, Whole, flat_map, head_text, readable, step_text}
-use Rattle.std.proofs.Math.Seq.{take-append-add}
-use Rattle.std.proofs.lemmas.List.{take_all, length-take}
+use Rattle.gts_connection.proofs.Cited.{◌≡◌, ℕ, ◌+◌, ◌-◌, ◌≤◌, List, ◌++◌, length, take, min, ap, ◌∙◌, arith, Bad, CaptureKind, Directory, EndHead, EndsEarlyOf, EndsInFeed, EndsInHead, IsWholeOf, LONGEST_CAPTURE, ReadingOf, Step, Whole, flat_map, head_text, readable, step_text, take-append-add, take_all, length-take}
+use Rattle.std.proofs.Common.{length-append}
 use Rattle.gts_connection.proofs.ReadingLemmas as reading
 
 pub readable-all : (bytes : List ℕ) → length bytes ≤ LONGEST_CAPTURE → readable bytes ≡ bytes

@@ -1,8 +1,5 @@
 -- Any bytes are read as a capture in just one way.
-use Rattle.std.proofs.Common.{◌≡◌, ℕ, zero, suc, ◌+◌, ◌<◌, ◌≤◌, ◌⊎◌, List, [], ◌∷◌, ◌++◌, length, take, drop, inl, inr, refl, sym, ap, subst, ◌∙◌, arith}
-use Rattle.gts_connection.specs.Cited.{AreStepsOf, Bad, CaptureKind, Compact, CompactHead, Directory, Drain, DrainHead, EndHead, EndsInFeed, EndsInHead, Feed, FeedHead, Head, IsEarly, IsHeadFront, IsHeadOf, IsPartialHead, ReadingIn, Reopen, ReopenHead, Restart, RestartHead, Step, Take, TakeHead, Whole, bytes_of_step, dec, flat_map, head_of, head_text, step_text}
-use Rattle.std.proofs.lemmas.Bool.{cases_lt}
-use Rattle.std.proofs.lemmas.List.{length-append, length-take-le, take-append-drop, append-nil, append_assoc}
+use Rattle.gts_connection.proofs.Cited.{◌≡◌, ℕ, zero, suc, ◌+◌, ◌<◌, ◌≤◌, ◌⊎◌, List, [], ◌∷◌, ◌++◌, length, take, drop, inl, inr, refl, sym, ap, subst, ◌∙◌, arith, AreStepsOf, Bad, CaptureKind, Compact, CompactHead, Directory, Drain, DrainHead, EndHead, EndsInFeed, EndsInHead, Feed, FeedHead, Head, IsEarly, IsHeadFront, IsHeadOf, IsPartialHead, ReadingIn, Reopen, ReopenHead, Restart, RestartHead, Step, Take, TakeHead, Whole, bytes_of_step, dec, flat_map, head_of, head_text, step_text, cases_lt, length-append, length-take-le, take-append-drop, append-nil, append_assoc}
 use Rattle.gts_connection.proofs.HeadLemmas.{shorter_front, same_fronts, same_heads, HeadAt, head_or_none, front_or_none}
 
 module _ (kind : CaptureKind) where

@@ -1,9 +1,6 @@
 -- The entries and the connections of steps that go on.
-use Rattle.std.proofs.Common.{◌≡◌, ℕ, ◌+◌, ◌≤◌, List, [], ◌∷◌, ◌++◌, length, refl, sym, ap, ◌∙◌, arith}
-use Rattle.gts_connection.specs.Cited.{AllByRecursion, Compact, Connections, Directory, Drain, Entry, Feed, Reopen, Restart, State, Step, Take, after_all, after_step, compactions, compactions_from, connections_after, count_at, entries, entries_from, entries_of_step, no_bytes}
-use Rattle.std.proofs.lemmas.List.{append_assoc, length-append, length-map}
+use Rattle.gts_connection.proofs.Cited.{◌≡◌, ℕ, ◌+◌, ◌≤◌, List, [], ◌∷◌, ◌++◌, length, refl, sym, ap, ◌∙◌, arith, AllByRecursion, Compact, Connections, Directory, Drain, Entry, Feed, Reopen, Restart, State, Step, Take, after_all, after_step, compactions, compactions_from, connections_after, count_at, entries, entries_from, entries_of_step, no_bytes, append_assoc, length-append, length-map, after_all-append}
 use Rattle.gts_connection.proofs.CutLemmas.{length-after}
-use Rattle.gts_event.proofs.LawLemmas.{after_all-append}
 
 entries_on : (d : Directory) (s : State) (bs : Connections) (steps more : List Step)
     → entries_from d s bs (steps ++ more) ≡ entries_from d s bs steps ++ entries_from d (after_all d s (entries_from d s bs steps)) (connections_after d bs steps) more

@@ -1,11 +1,6 @@
 -- The events of a connection are those of the signs that its bytes show.
-use Rattle.std.proofs.Common.{◌≡◌, ℕ, zero, suc, ◌+◌, Bool, true, false, ◌==◌, cond, List, [], ◌∷◌, ◌++◌, length, drop, take, Option, Some, None, refl, sym, ap, ◌∙◌, find, nat_eq}
-use Rattle.gts_connection.specs.Cited.{An, Bi, Breaks, Carries, Decoding, Event, Frame, FrameField, Fx, Heard, IsFramed, KeepAlive, KeepsAlive, Kind, Lost, Piece, ReadsOn, Sign, break_at, break_of, connection, event_at, events_added, events_in, events_of, events_of_signs, frame, has_piece, length_in, letters, loss_at, loss_of, sign_at, signs_from, signs_in, signs_of, signs_of_step, starts_with}
+use Rattle.gts_connection.proofs.Cited.{◌≡◌, ℕ, zero, suc, ◌+◌, Bool, true, false, ◌==◌, cond, List, [], ◌∷◌, ◌++◌, length, drop, take, Option, Some, None, refl, sym, ap, ◌∙◌, find, nat_eq, An, Bi, Breaks, Carries, Decoding, Event, Frame, FrameField, Fx, Heard, IsFramed, KeepAlive, KeepsAlive, Kind, Lost, Piece, ReadsOn, Sign, break_at, break_of, connection, event_at, events_added, events_in, events_of, events_of_signs, frame, has_piece, length_in, letters, loss_at, loss_of, sign_at, signs_from, signs_in, signs_of, signs_of_step, starts_with, drop-append_seam, signs-piece, common_steps, arith}
 use Rattle.gts_frame.specs.declared.step.Step.{Step}
-use Rattle.std.proofs.Math.Seq.{drop-append_seam}
-use Rattle.gts_frame.proofs.LawLemmas.{signs-piece}
-use Rattle.std.proofs.lemmas.Grind.{common_steps}
-use Rattle.std.proofs.Common.{arith}
 
 pub signs-append : (c : ℕ) (xs ys : List Sign) → events_of_signs c (xs ++ ys) ≡ events_of_signs c xs ++ events_of_signs c ys
 signs-append c [] ys = refl

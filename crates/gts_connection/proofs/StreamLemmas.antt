@@ -1,12 +1,6 @@
 -- Any bytes of a connection have the events that are computed and no others, and more bytes only add events.
-use Rattle.std.proofs.Common.{◌≡◌, ℕ, true, false, List, [], ◌∷◌, ◌++◌, length, drop, Option, Some, None, refl, sym, ap, subst, ◌∙◌, IsSome}
-use Rattle.gts_connection.specs.Cited.{Event, Frame, FrameField, IsConnection, IsStreamFront, KeepAlive, Piece, Shows, Sign, break_of, connection, events_added, events_of, events_of_signs, held_in, is_lost, list_any, loss_of, open_part, signs_in, signs_of}
-use Rattle.std.proofs.lemmas.List.{append-nil, append_assoc, append_cancel_left}
-use Rattle.std.proofs.Math.Seq.{drop-append_seam}
-use Rattle.gts_frame.proofs.LawLemmas.{shows-computed, shows-one, open-front, front-open, reads-open, reads-lost}
+use Rattle.gts_connection.proofs.Cited.{◌≡◌, ℕ, true, false, List, [], ◌∷◌, ◌++◌, length, drop, Option, Some, None, refl, sym, ap, subst, ◌∙◌, IsSome, Event, Frame, FrameField, IsConnection, IsStreamFront, KeepAlive, Piece, Shows, Sign, break_of, connection, events_added, events_of, events_of_signs, held_in, is_lost, list_any, loss_of, open_part, signs_in, signs_of, append-nil, append_assoc, append_cancel_left, drop-append_seam, shows-computed, shows-one, open-front, front-open, reads-open, reads-lost, common_steps, arith}
 use Rattle.gts_connection.proofs.StepsLemmas.{events-shown, connection-signs, added-more}
-use Rattle.std.proofs.lemmas.Grind.{common_steps}
-use Rattle.std.proofs.Common.{arith}
 
 -- ---- the events of bytes
 

@@ -1,5 +1,6 @@
 -- Worked rows over literal bytes: connections and captures.
 use Rattle.std.specs.Prelude.{◌≡◌, ℕ, map, flat_map, List, [], ◌∷◌, ◌++◌, length, take, drop, codes}
+unfoldable pub use Rattle.std.specs.Fmt.{digits}
 use Rattle.gts_connection.specs.Cited.Below.{An, Directory, Entry, Event, Heard, Lost, Restarted, empty}
 use Rattle.gts_frame.specs.declared.lost.FrameField.TheVariants as lost
 use Rattle.gts_event.specs.Worked.{two, report, message_text, frame_of, first, second, take_on, channel}

@@ -1,4 +1,7 @@
 //! Worked rows over literal bytes, each the contract of a function with an empty body.
+
+#![tactic(auto, unfolding(gts_alphabet::specs::Digits::dec, gts_heading::specs::Heading::heading_text, gts_heading::specs::Reading::bare_group_at, gts_heading::specs::Reading::bare_heading_at, gts_heading::specs::Reading::heading_at, gts_heading::specs::Reading::message_group_at, gts_heading::specs::Reading::plain_heading_at, gts_message::specs::Message::body_at, gts_message::specs::Message::number_at, gts_message::specs::Message::split_at, gts_message::specs::Message::text_at, gts_request::specs::Request::request_at, crate::specs::Worked::digits))]
+
 ghost use Rattle.gts_connection.specs.Worked.{ByteByByte, KeepAliveBetween, LossAndReopen, Losses, FramesBeforeLoss, DrainTakes, RestartedConnections, CountedCompactions, WholeCapture};
 ghost use Rattle.gts_connection.specs.Worked.{CutInFeed, CutInHead, BadByte, TrafficHeads};
 

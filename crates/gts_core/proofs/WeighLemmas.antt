@@ -1,9 +1,5 @@
 -- What was found of a message is what the definitions read of it.
-use Rattle.std.proofs.lemmas.Grind.{common_steps}
-use Rattle.std.proofs.Common.{◌≡◌, ◌<◌, ◌≤◌, List, ◌++◌, length, ℕ, Result, Ok, Err, sym, ap, arith}
-use Rattle.std.proofs.lemmas.List.{length-append}
-use Rattle.gts_message.proofs.LawLemmas.{split_takes}
-use Rattle.gts_core.specs.Cited.{Asks, Directory, EOL, HeadingFields, IsFound, Item, Judged, LONGEST_BODY, LONGEST_MESSAGE, MessageField, MessageParts, heading_of_message, heading_text, items_of, message_end, no_heading, request_at, split_at}
+use Rattle.gts_core.proofs.Cited.{common_steps, ◌≡◌, ◌<◌, ◌≤◌, List, ◌++◌, length, ℕ, Result, Ok, Err, sym, ap, arith, length-append, split_takes, Asks, Directory, EOL, HeadingFields, IsFound, Item, Judged, LONGEST_BODY, LONGEST_MESSAGE, MessageField, MessageParts, heading_of_message, heading_text, items_of, message_end, no_heading, request_at, split_at}
 use Rattle.gts_core.specs.declared.answer.Judged.TheVariants as judged
 
 pub heading_read : (message : List ℕ) (parts : MessageParts) → split_at message ≡ Ok parts → heading_of_message message ≡ parts.heading

@@ -1,10 +1,7 @@
 -- The numbers of a sound need.
-use Rattle.std.proofs.Common.{◌≡◌, ℕ, zero, suc, ◌-◌, ◌<◌, Bool, true, false, ◌==◌, cond, List, [], ◌∷◌, ◌++◌, length, get_or, drop, map, zip, Option, Some, None, refl, sym, ap, subst, ◌∙◌, arith, IsTrue, IsSome, option_map, unwrap_or}
-use Rattle.gts_count.specs.Cited.{All, AreBodies, BTreeMap, Begins, Buffer, Bulletin, Circuit, CircuitNeed, Directory, Follows, HasEachRow, HasKeys, HaveRows, IsOrdered, Need, NotesAll, NotesDraws, Numbers, SoundCircuit, SoundNeed, Starts, State, at_position, begun, get, has_row, is_bulletin, is_circuit_sound, is_sound, is_there, keep_last, keeps_one, key_at, key_by, key_of, list_all, nat_cmp, need, no_ring, recent_in, ring_at, tally, tally_of, unused}
-use Rattle.std.proofs.lemmas.Bool.{and_parts}
-use Rattle.std.proofs.lemmas.List.{length-map, get_or-map, ext_get_or}
+use Rattle.gts_count.proofs.Cited.{◌≡◌, ℕ, zero, suc, ◌-◌, ◌<◌, Bool, true, false, ◌==◌, cond, List, [], ◌∷◌, ◌++◌, length, get_or, drop, map, zip, Option, Some, None, refl, sym, ap, subst, ◌∙◌, arith, IsTrue, IsSome, option_map, unwrap_or, All, AreBodies, BTreeMap, Begins, Buffer, Bulletin, Circuit, CircuitNeed, Directory, Follows, HasEachRow, HasKeys, HaveRows, IsOrdered, Need, NotesAll, NotesDraws, Numbers, SoundCircuit, SoundNeed, Starts, State, at_position, begun, has_row, is_bulletin, is_circuit_sound, is_sound, is_there, keep_last, keeps_one, key_at, key_by, key_of, list_all, nat_cmp, need, no_ring, recent_in, ring_at, tally, tally_of, unused, and_parts, length-map, get_or-map, ext_get_or, sound-parts, circuit-parts, need-begun, held-begun, ordered-begun, bulletin-parts}
+use Rattle.gts_count.specs.Cited.{get}
 use Rattle.gts_directory.specs.Directory as directory
-use Rattle.gts_event.proofs.LawLemmas.{sound-parts, circuit-parts, need-begun, held-begun, ordered-begun, bulletin-parts}
 use Rattle.gts_count.proofs.StepLemmas.{held_window, starts_window}
 use Rattle.gts_count.proofs.StateLemmas.{tally_is}
 use Rattle.gts_count.proofs.FollowLemmas.{bulletin_there}

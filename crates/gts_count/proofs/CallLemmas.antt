@@ -1,9 +1,5 @@
 -- A call on a switch with running numbers beside it is one of the switch.
-use Rattle.std.proofs.Common.{◌≡◌, ℕ, ◌⊎◌, inl, inr, Bool, true, false, List, [], ◌∷◌, ◌++◌, Result, Ok, Err, refl, sym, ap, subst, ◌∙◌, is_err}
-use Rattle.std.proofs.lemmas.Bool.{true≢false}
-use Rattle.std.proofs.lemmas.List.{append-nil, append_assoc, map-append}
-use Rattle.gts_count.specs.Cited.{AfterCall, AfterSettled, AfterSettling, Alone, AtOnce, Behind, CountedParts, Counting, Counts, CountsIf, Directory, DiskFault, Done, Doubt, Entry, Event, Full, GathersOne, GoesOn, HasDoubt, HasUnsaid, Heard, Idle, IsAccepted, IsAnswerCause, IsAnswered, IsCompacting, IsCutShort, IsInDoubt, IsOneMore, IsReopening, IsSettling, IsTold, Kind, MayLeave, NoMemory, OpenFault, Outcome, SayFault, ShowsTable, Spent, Standing, State, Stopped, SwitchFault, Unsaid, after, after_all, all_done, all_unsaid, counted_meanings, need, outcome, outcome_at, outdated, restart_of, settled, state_at, table, table_of, tally_of}
-use Rattle.gts_event.proofs.LawLemmas.{after_all-append}
+use Rattle.gts_count.proofs.Cited.{◌≡◌, ℕ, ◌⊎◌, inl, inr, Bool, true, false, List, [], ◌∷◌, ◌++◌, Result, Ok, Err, refl, sym, ap, subst, ◌∙◌, is_err, true≢false, append-nil, append_assoc, map-append, AfterCall, AfterSettled, AfterSettling, Alone, AtOnce, Behind, CountedParts, Counting, Counts, CountsIf, Directory, DiskFault, Done, Doubt, Entry, Event, Full, GathersOne, GoesOn, HasDoubt, HasUnsaid, Heard, Idle, IsAccepted, IsAnswerCause, IsAnswered, IsCompacting, IsCutShort, IsInDoubt, IsOneMore, IsReopening, IsSettling, IsTold, Kind, MayLeave, NoMemory, OpenFault, Outcome, SayFault, ShowsTable, Spent, Standing, State, Stopped, SwitchFault, Unsaid, after, after_all, all_done, all_unsaid, counted_meanings, need, outcome, outcome_at, outdated, restart_of, settled, state_at, table, table_of, tally_of, after_all-append}
 use Rattle.gts_count.proofs.CountingLemmas.{counts_more, counts_failed, same_after, outdated_after}
 use Rattle.gts_count.proofs.TakingLemmas.{counts_restarted}
 

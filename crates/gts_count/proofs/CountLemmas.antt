@@ -1,8 +1,6 @@
 -- The numbers of each key, where a bulletin or a draw joins or leaves.
-use Rattle.std.proofs.Common.{◌≡◌, ℕ, ◌+◌, ◌<◌, Bool, true, false, cond, nat_eq, List, [], ◌∷◌, ◌++◌, length, set, get_or, sum_by, refl, sym, ap, ◌∙◌, arith}
-use Rattle.gts_count.specs.Cited.{ChangesRow, IsCount, Recent, Row, Rows, Tally, counted, draws_among, is_of, once, pointwise, row_at, with_bulletin, with_draw, without_bulletin, without_draw}
-use Rattle.std.proofs.lemmas.List.Sums.{sum_by-cons, sum_by-append, sum_by-set}
-use Rattle.gts_frame.proofs.LawLemmas.{same_from_pointwise}
+use Rattle.gts_count.proofs.Cited.{◌≡◌, ℕ, ◌+◌, ◌<◌, Bool, true, false, cond, nat_eq, List, [], ◌∷◌, ◌++◌, length, set, get_or, sum_by, refl, sym, ap, ◌∙◌, arith, ChangesRow, IsCount, Recent, Row, Rows, Tally, counted, draws_among, is_of, once, pointwise, row_at, with_draw, without_bulletin, without_draw, sum_by-cons, sum_by-append, sum_by-set, same_from_pointwise}
+use Rattle.gts_count.specs.Cited.{with_bulletin}
 
 abbrev pub row : ℕ → ℕ → ℕ → Row
 row a b c = record { bulletins = a; bytes = b; draws = c }

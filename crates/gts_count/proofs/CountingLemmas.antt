@@ -1,15 +1,9 @@
 -- What is kept beside a switch, by what the switch answers.
-use Rattle.std.proofs.Common.{◌≡◌, ℕ, suc, ◌<◌, ◌⊎◌, inl, inr, Bool, true, false, ◌&&◌, cond, List, [], ◌∷◌, ◌++◌, length, reverse, Option, Some, None, Result, Ok, Err, refl, sym, ap, subst, ◌∙◌, arith, append_assoc, IsTrue, nat_eq, take}
-use Rattle.gts_count.specs.Cited.{Accepted, AfterAccepted, AfterHeard, All, Arrival, Asked, Bulletin, CanNote, Counting, Counts, CountsIf, Directory, DiskFault, Doubt, Draw, Duplicate, Entry, Follows, Full, GoesOn, HasDoubt, HasUnsaid, HeadingFields, Heard, IsAccepted, IsReady, IsTold, KeepsRest, Kind, Knows, LineLost, NoMemory, Notes, Nothing, Numbers, Outcome, Prepares, Refused, Resend, SayFault, Spent, State, Stopped, SwitchFault, Unsaid, WasRead, after, arrived, body_of, duplicate, find, has_row, heading_of, heading_text, heard_of, is_recent, is_same_heading, key_of, named, outcome, outdated, pointwise, text_of}
-use Rattle.std.proofs.lemmas.Bool.{true≢false, and_parts}
-use Rattle.std.proofs.lemmas.List.{length-map, reverse-append}
-use Rattle.std.proofs.lemmas.List.Elements.{All-append}
-use Rattle.gts_event.proofs.LawLemmas.{outcome-same}
+use Rattle.gts_count.proofs.Cited.{◌≡◌, ℕ, suc, ◌<◌, ◌⊎◌, inl, inr, Bool, true, false, ◌&&◌, cond, List, [], ◌∷◌, ◌++◌, length, reverse, Option, Some, None, Result, Ok, Err, refl, sym, ap, subst, ◌∙◌, arith, IsTrue, nat_eq, take, Accepted, AfterAccepted, AfterHeard, All, Arrival, Asked, Bulletin, CanNote, Counting, Counts, CountsIf, Directory, DiskFault, Doubt, Draw, Duplicate, Entry, Follows, Full, GoesOn, HasDoubt, HasUnsaid, HeadingFields, Heard, IsAccepted, IsReady, IsTold, KeepsRest, Kind, Knows, LineLost, NoMemory, Notes, Nothing, Numbers, Outcome, Prepares, Refused, Resend, SayFault, Spent, State, Stopped, SwitchFault, Unsaid, WasRead, after, arrived, body_of, duplicate, find, has_row, heading_of, heading_text, heard_of, is_recent, is_same_heading, key_of, named, outcome, outdated, pointwise, text_of, true≢false, and_parts, length-map, reverse-append, All-append, outcome-same, same_from_pointwise as same_numbers, common_steps}
+use Rattle.std.proofs.Common.{append_assoc}
 use Rattle.gts_count.proofs.SoundLemmas.{single}
 use Rattle.gts_count.proofs.KeyLemmas.{key_message}
 use Rattle.gts_count.proofs.FollowLemmas.{follows_heard, follows_prepared, follows_accepted}
-use Rattle.gts_frame.proofs.LawLemmas.{same_from_pointwise as same_numbers}
-use Rattle.std.proofs.lemmas.Grind.{common_steps}
 
 pub current_counts : (d : Directory) (s : State) (h : List Entry) (c : Counting) → c.current ≡ true → Counts d s h c → Knows d c × Follows d s c.numbers
 current_counts d s h c is counts = subst (λ (b : Bool). CountsIf b d s h c) is counts

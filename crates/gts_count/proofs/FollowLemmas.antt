@@ -1,16 +1,9 @@
 -- The running numbers follow a history, entry by entry.
-use Rattle.std.proofs.Common.{◌≡◌, ℕ, suc, ◌+◌, ◌<◌, ◌≤◌, Bool, true, false, ◌&&◌, ◌==◌, cond, inl, inr, List, [], ◌∷◌, ◌++◌, length, get_or, set, map, Option, Some, refl, sym, ap, subst, ◌∙◌, arith, IsTrue}
-use Rattle.gts_count.specs.Cited.{Accepted, All, Asked, Buffer, Bulletin, Choice, Circuit, CircuitState, Directory, Done, Draw, Draws, Duplicate, Event, Follows, Heard, IsHeld, Kind, LineLost, Notes, NotesDraw, Nothing, Nothing_waits, Numbers, Outcome, Prepares, Recent, Refused, Repeats, Resend, Restarted, SameNeed, State, Taken, Tally, after, after_heard, after_take, arrived, body_of, choice, circuit_of_event, drawn_of, find, has, has_row, heading_of_message, heard_of, is_here, is_there, joined, keep_last, kept_with, key_at, key_of, last_counted, list_all, named, need, no_ring, on_circuit, outcome, recent, recent_in, recent_of, restarted, ring_at, takens_of, tally, tally_at, tally_of, with_drawn}
-use Rattle.gts_event.specs.History.{with_bulletin}
-use Rattle.std.proofs.lemmas.Bool.{true≢false, lt-ltb, or_cases}
-use Rattle.std.proofs.lemmas.List.{get_or-map, set-get_or, map-set, length-map}
-use Rattle.std.proofs.lemmas.List.Elements.{All-append}
-use Rattle.gts_event.proofs.LawLemmas.{after-same, outcome-same, restarted-same, held-all, list_all-has, draw_position, next_waits, waiting_routed, accepted_position}
+use Rattle.gts_count.proofs.Cited.{◌≡◌, ℕ, suc, ◌+◌, ◌<◌, ◌≤◌, Bool, true, false, ◌&&◌, ◌==◌, cond, inl, inr, List, [], ◌∷◌, ◌++◌, length, get_or, set, map, Option, Some, refl, sym, ap, subst, ◌∙◌, arith, IsTrue, Accepted, All, Asked, Buffer, Bulletin, Choice, Circuit, CircuitState, Directory, Done, Draw, Draws, Duplicate, Event, Follows, Heard, IsHeld, Kind, LineLost, Notes, NotesDraw, Nothing, Nothing_waits, Numbers, Outcome, Prepares, Recent, Refused, Repeats, Resend, Restarted, SameNeed, State, Taken, Tally, after, after_heard, after_take, arrived, body_of, choice, circuit_of_event, drawn_of, find, has, has_row, heading_of_message, heard_of, is_here, is_there, joined, keep_last, kept_with, key_at, key_of, last_counted, list_all, named, need, no_ring, on_circuit, outcome, recent, recent_in, recent_of, restarted, ring_at, takens_of, tally, tally_at, tally_of, with_drawn, with_bulletin, true≢false, lt-ltb, or_cases, get_or-map, set-get_or, map-set, length-map, All-append, after-same, outcome-same, restarted-same, held-all, list_all-has, draw_position, next_waits, waiting_routed, accepted_position, common_steps}
 use Rattle.gts_count.proofs.WindowLemmas.{counts_window, joins_window}
 use Rattle.gts_count.proofs.StateLemmas.{tally-need, tally_is, takens-routed, takens-same, takens-restarted, drawn-drew, drawn-more}
 use Rattle.gts_count.proofs.StepLemmas.{held_window, joined_last}
 use Rattle.gts_count.proofs.SoundLemmas.{single}
-use Rattle.std.proofs.lemmas.Grind.{common_steps}
 
 -- what is counted of a state depends on these alone
 record Quiet (t u : State) : Type 0 where

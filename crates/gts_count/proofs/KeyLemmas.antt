@@ -1,15 +1,6 @@
 -- The key of a bulletin is its first eleven bytes, and stands so in its frames.
-use Rattle.std.proofs.Common.{◌≡◌, ℕ, ◌+◌, ◌<◌, ◌≤◌, true, ◌==◌, cond, List, [], ◌∷◌, ◌++◌, length, set, take, drop, Option, Some, None, Result, Ok, Err, refl, sym, ap, ◌∙◌, arith, length-append, is_ok}
-use Rattle.gts_count.specs.Cited.{Bulletin, Choice, CircuitState, Directory, Draws, EOL, HeadingFields, IsBody, IsHeading, Kind, MessageField, MessageParts, Nothing_waits, Outside, Repeats, SOH, State, Taken, after, after_take, body_at, body_of, bulletin_at, channel_bytes, choice, dec, digits_on, drawn, enumerate_from, find, frame, frame_of_draw, heading_of, heading_text, idle, key_of, key_of_frame, letters, message_end, message_of, no_heading, numbered_frame, on, on_circuit, split_at, spoken, with_drawn}
-use Rattle.std.proofs.lemmas.Bool.{true≢false, eq-eqb, ne_eqb}
-use Rattle.std.proofs.lemmas.List.{take-append-le, get_or-set_same}
-use Rattle.std.proofs.Math.Seq.{drop-append-add}
-use Rattle.gts_alphabet.proofs.LawLemmas.{length-dec}
-use Rattle.gts_traits.proofs.LawLemmas.{channel_bytes-on}
-use Rattle.gts_message.proofs.LawLemmas.{body_is_spelled, body_of_message}
-use Rattle.gts_frame.proofs.LawLemmas.{length-frame, length-letters}
-use Rattle.gts_event.proofs.LawLemmas.{draw_index}
-use Rattle.std.proofs.lemmas.Grind.{common_steps}
+use Rattle.gts_count.proofs.Cited.{◌≡◌, ℕ, ◌+◌, ◌<◌, ◌≤◌, true, ◌==◌, cond, List, [], ◌∷◌, ◌++◌, length, set, take, drop, Option, Some, None, Result, Ok, Err, refl, sym, ap, ◌∙◌, arith, is_ok, Bulletin, Choice, CircuitState, Directory, Draws, EOL, HeadingFields, IsBody, IsHeading, Kind, MessageField, MessageParts, Nothing_waits, Outside, Repeats, SOH, State, Taken, after, after_take, body_at, body_of, bulletin_at, channel_bytes, choice, dec, digits_on, drawn, enumerate_from, find, frame, frame_of_draw, heading_of, heading_text, idle, key_of, key_of_frame, letters, message_end, message_of, no_heading, numbered_frame, on, on_circuit, split_at, spoken, with_drawn, true≢false, eq-eqb, ne_eqb, take-append-le, get_or-set_same, drop-append-add, length-dec, channel_bytes-on, body_is_spelled, body_of_message, length-frame, length-letters, draw_index, common_steps}
+use Rattle.std.proofs.Common.{length-append}
 
 -- ---- in a body
 

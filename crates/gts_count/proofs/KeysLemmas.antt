@@ -1,15 +1,8 @@
 -- The keys of the rows that have numbers are those that are counted, each once, ascending.
-use Rattle.std.proofs.Common.{◌≡◌, ℕ, ◌+◌, ◌≤◌, Bool, true, false, ◌||◌, ◌==◌, cond, inl, inr, nat_eq, List, [], ◌∷◌, ◌++◌, map, filter, fold, flat_map, sum_by, Option, Some, None, refl, sym, ap, ◌∙◌, arith}
-use Rattle.gts_count.specs.Cited.{AllByRecursion, Equal, Greater, Less, Ordering, Recent, Row, SortedRows, Tally, bytes_below, counted, draws_among, entry_text, insert_entry, is_at, is_counted, is_eq, is_of, key_line, key_lines, keys, list_any, lookup, match_ordering, once, ordering_reverse, pointwise, row_in, with_key}
-use Rattle.std.specs.List.Sorted.{IsStrictlySortedBy}
-use Rattle.std.proofs.lemmas.Bool.{true≢false, eq-eqb, ne_eqb, or_cases, or_parts}
-use Rattle.std.proofs.lemmas.Cmp.{nat_list_cmp_total, nat_list_eq_equiv}
-use Rattle.std.proofs.lemmas.Map.Lookups.{exact_bytes}
-use Rattle.std.proofs.lemmas.List.Sums.{sum_by-cons}
+use Rattle.gts_count.proofs.Cited.{◌≡◌, ℕ, ◌+◌, ◌≤◌, Bool, true, false, ◌||◌, ◌==◌, cond, inl, inr, nat_eq, List, [], ◌∷◌, ◌++◌, map, filter, fold, flat_map, sum_by, Option, Some, None, refl, sym, ap, ◌∙◌, arith, Equal, Greater, Less, Ordering, Recent, Row, SortedRows, Tally, bytes_below, counted, draws_among, entry_text, insert_entry, is_at, is_counted, is_eq, is_of, key_line, key_lines, keys, list_any, lookup, match_ordering, once, ordering_reverse, pointwise, row_in, with_key, IsStrictlySortedBy, true≢false, eq-eqb, ne_eqb, or_cases, or_parts, nat_list_cmp_total, nat_list_eq_equiv, exact_bytes, sum_by-cons, same_from_pointwise as same_numbers, common_steps}
+use Rattle.gts_count.specs.Cited.{AllByRecursion}
 use Rattle.gts_count.proofs.RowLemmas.{same_test}
 use Rattle.gts_count.proofs.OrderedLemmas.{Up, one_list}
-use Rattle.gts_frame.proofs.LawLemmas.{same_from_pointwise as same_numbers}
-use Rattle.std.proofs.lemmas.Grind.{common_steps}
 
 abbrev Entries : Type 0 → Type 0
 Entries X = List (List ℕ × X)

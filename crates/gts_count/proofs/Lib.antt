@@ -1,3 +1,4 @@
+mod Cited
 mod RowLemmas
 mod CountLemmas
 mod SoundLemmas

@@ -1,6 +1,5 @@
 -- The lines of circuits and of keys, one after another.
-use Rattle.std.proofs.Common.{◌≡◌, ℕ, suc, ◌+◌, ◌<◌, List, [], ◌∷◌, ◌++◌, length, map, drop, flat_map, get_or, refl, ap, ◌∙◌, arith, codes}
-use Rattle.gts_count.specs.Cited.{AreInOrder, Buffer, IsSound, Less, Numbers, SortedRows, Tally, bytes_below, came, circuit_lines, circuit_text, key_line, keys, numbers_lines, numbers_text, row_in, table_of, tally_of}
+use Rattle.gts_count.proofs.Cited.{◌≡◌, ℕ, suc, ◌+◌, ◌<◌, List, [], ◌∷◌, ◌++◌, length, map, drop, flat_map, get_or, refl, ap, ◌∙◌, arith, codes, AreInOrder, Buffer, IsSound, Less, Numbers, SortedRows, Tally, bytes_below, came, circuit_lines, circuit_text, key_line, keys, numbers_lines, numbers_text, row_in, table_of, tally_of}
 use Rattle.gts_count.proofs.OrderedLemmas.{Up}
 use Rattle.gts_count.proofs.KeysLemmas.{lines_are}
 

@@ -1,7 +1,6 @@
 -- Two lists in strict order with the same members are one.
-use Rattle.std.proofs.Common.{◌≡◌, Bool, true, false, ◌||◌, inl, inr, List, [], ◌∷◌, refl, sym, ap, subst, ◌∙◌}
-use Rattle.std.specs.List.{list_any, AllByRecursion}
-use Rattle.std.proofs.lemmas.Bool.{true≢false, or_cases}
+use Rattle.gts_count.proofs.Cited.{◌≡◌, Bool, true, false, ◌||◌, inl, inr, List, [], ◌∷◌, refl, sym, ap, subst, ◌∙◌, AllByRecursion, true≢false, or_cases}
+use Rattle.std.specs.List.{list_any}
 
 -- each is below all behind it
 abbrev pub Up : {X : Type 0} → (X → X → Type 0) → List X → Type 0

@@ -1,13 +1,5 @@
 -- The rows of a map, one key after another.
-use Rattle.std.proofs.Common.{◌≡◌, ℕ, Bool, true, false, cond, nat_eq, List, Option, Some, None, is_some, refl, sym, subst, ◌∙◌}
-use Rattle.gts_count.specs.Cited.{AddsRow, ChangesRow, Row, Rows, bytes_below, is_eq, no_row, pointwise, row_at, row_in}
-use Rattle.std.specs.HashMap.{get}
-use Rattle.std.proofs.lemmas.Bool.{true≢false}
-use Rattle.std.proofs.lemmas.Cmp.{nat_list_eq_equiv}
-use Rattle.std.proofs.lemmas.Map.Text.{is_eq-slice_cmp}
-use Rattle.gts_frame.proofs.LawLemmas.{same_from_pointwise}
-use Rattle.std.proofs.lemmas.Grind.{common_steps}
-use Rattle.std.proofs.Common.{arith}
+use Rattle.gts_count.proofs.Cited.{◌≡◌, ℕ, Bool, true, false, cond, nat_eq, List, Option, Some, None, is_some, refl, sym, subst, ◌∙◌, AddsRow, ChangesRow, Row, Rows, bytes_below, is_eq, no_row, pointwise, row_at, row_in, get, true≢false, nat_list_eq_equiv, is_eq-slice_cmp, same_from_pointwise, common_steps, arith}
 
 -- two tests of the same key
 pub same_test : (key k : List ℕ) → is_eq (bytes_below key k) ≡ pointwise nat_eq k key

@@ -1,13 +1,8 @@
 -- The rows put in order, one after another.
-use Rattle.std.proofs.Common.{◌≡◌, ℕ, Bool, true, false, cond, nat_eq, List, [], ◌∷◌, Option, Some, None, refl, sym, ap, ◌∙◌}
-use Rattle.gts_count.specs.Cited.{All, AreInOrder, Row, Rows, SortedRows, bytes_below, is_eq, lookup, pointwise}
+use Rattle.gts_count.proofs.Cited.{◌≡◌, ℕ, Bool, true, false, cond, nat_eq, List, [], ◌∷◌, Option, Some, None, refl, sym, ap, ◌∙◌, All, AreInOrder, Row, Rows, SortedRows, bytes_below, is_eq, lookup, pointwise, All-head, All-same, All-rest, same_from_pointwise, common_steps, arith}
 use Rattle.std.specs.BTreeMap as tree
 use Rattle.std.specs.HashMap as hash
-use Rattle.std.proofs.lemmas.List.Elements.{All-head, All-same, All-rest}
 use Rattle.gts_count.proofs.RowLemmas.{same_test}
-use Rattle.gts_frame.proofs.LawLemmas.{same_from_pointwise}
-use Rattle.std.proofs.lemmas.Grind.{common_steps}
-use Rattle.std.proofs.Common.{arith}
 
 -- what was found, or else the other
 abbrev pub found_or : Option Row → Option Row → Option Row

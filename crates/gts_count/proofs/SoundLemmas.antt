@@ -1,15 +1,6 @@
 -- The running numbers stay those of what was counted.
-use Rattle.std.proofs.Common.{◌≡◌, ℕ, zero, suc, ◌+◌, ◌-◌, ◌*◌, ◌<◌, ◌≤◌, ◌^◌, Bool, true, false, cond, nat_eq, IsTrue, List, [], ◌∷◌, ◌++◌, length, map, drop, set, get_or, sum_by, slice_get, Option, Some, None, is_some, refl, sym, ap, ◌∙◌, arith}
-use Rattle.gts_count.specs.Cited.{All, Buffer, HasCame, IsCount, IsRing, IsSmall, IsSound, Numbers, Recent, Row, Rows, draws_among, has_row, is_of, keep_last, kept_with, no_ring, once, pointwise, row_at, row_in, with_item, with_newest, without_oldest}
-use Rattle.std.specs.HashMap.{get}
-use Rattle.std.proofs.lemmas.Bool.{true≢false, eqb-true, eqb-false, eq-eqb}
-use Rattle.std.proofs.lemmas.Cmp.{nat_list_eq_equiv}
-use Rattle.std.proofs.lemmas.Option.{get_or_from_slice_get}
-use Rattle.std.proofs.lemmas.List.{get_or-set_same, get_or-set_other, length-set, length-append, set-set, length-map, get_or-map, map-set}
-use Rattle.std.proofs.lemmas.List.Elements.{All-map, All-set}
-use Rattle.std.proofs.lemmas.List.Sums.{sum_by-cons, sum_by-le, get_or-le-sum_by}
+use Rattle.gts_count.proofs.Cited.{◌≡◌, ℕ, zero, suc, ◌+◌, ◌-◌, ◌*◌, ◌<◌, ◌≤◌, ◌^◌, Bool, true, false, cond, nat_eq, IsTrue, List, [], ◌∷◌, ◌++◌, length, map, drop, set, get_or, sum_by, slice_get, Option, Some, None, is_some, refl, sym, ap, ◌∙◌, arith, All, Buffer, HasCame, IsCount, IsRing, IsSmall, IsSound, Numbers, Recent, Row, Rows, draws_among, has_row, is_of, keep_last, kept_with, no_ring, once, pointwise, row_at, row_in, with_item, with_newest, without_oldest, get, true≢false, eqb-true, eqb-false, eq-eqb, nat_list_eq_equiv, get_or_from_slice_get, get_or-set_same, get_or-set_other, length-set, length-append, set-set, length-map, get_or-map, map-set, All-map, All-set, sum_by-cons, sum_by-le, get_or-le-sum_by, common_steps}
 use Rattle.gts_count.proofs.CountLemmas.{tallied, one, size, among, sum_by-more}
-use Rattle.std.proofs.lemmas.Grind.{common_steps}
 
 -- a list that has a first element
 pub first : {X : Type 0} (xs : List X) (y : X) → slice_get xs 0 ≡ Some y → xs ≡ y ∷ drop 1 xs

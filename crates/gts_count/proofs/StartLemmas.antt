@@ -1,15 +1,7 @@
 -- The numbers of a start: nothing, and what is noted.
-use Rattle.std.proofs.Common.{◌≡◌, ℕ, zero, suc, ◌+◌, ◌<◌, ◌≤◌, ◌^◌, Bool, true, false, cond, nat_eq, List, [], ◌∷◌, ◌++◌, length, get_or, take, map, replicate, sum_by, slice_get, Some, refl, sym, ap, subst, ◌∙◌, arith, IsTrue}
-use Rattle.gts_count.specs.Cited.{All, Begins, Buffer, Bulletin, Circuit, Directory, HasRings, IsRing, IsSmall, MOST_KEPT, MOST_KEPT_OF_FIVE, Notes, NotesStart, Numbers, Prepares, Recent, Row, buffer, came, counted, draws_among, has_row, is_bulletin, is_recent, key_of, lookup, no_row, nothing_drawn, pointwise, row_in, tally_of}
-use Rattle.std.proofs.Math.Seq.{take-suc}
-use Rattle.std.proofs.lemmas.List.{length-map, length-replicate, map-append}
-use Rattle.std.proofs.lemmas.List.Sums.{sum_by-cons}
-use Rattle.std.proofs.lemmas.List.Elements.{All-append}
-use Rattle.std.proofs.lemmas.Option.{get_or_from_slice_get, slice_get_within}
-use Rattle.gts_event.proofs.LawLemmas.{bulletin-parts}
+use Rattle.gts_count.proofs.Cited.{◌≡◌, ℕ, zero, suc, ◌+◌, ◌<◌, ◌≤◌, ◌^◌, Bool, true, false, cond, nat_eq, List, [], ◌∷◌, ◌++◌, length, get_or, take, map, replicate, sum_by, slice_get, Some, refl, sym, ap, subst, ◌∙◌, arith, IsTrue, All, Begins, Buffer, Bulletin, Circuit, Directory, HasRings, IsRing, IsSmall, MOST_KEPT, MOST_KEPT_OF_FIVE, Notes, NotesStart, Numbers, Prepares, Recent, Row, buffer, came, counted, draws_among, has_row, is_bulletin, is_recent, key_of, lookup, no_row, nothing_drawn, pointwise, row_in, tally_of, take-suc, length-map, length-replicate, map-append, sum_by-cons, All-append, get_or_from_slice_get, slice_get_within, bulletin-parts, common_steps}
 use Rattle.gts_count.proofs.SoundLemmas.{single}
 use Rattle.gts_count.proofs.KeyLemmas.{key_body}
-use Rattle.std.proofs.lemmas.Grind.{common_steps}
 
 -- one row more
 pub row_more : {Y : Type 0} (f : Circuit → Y) (rows : List Circuit) (c : ℕ) (row : Circuit) (ys : List Y) (y : Y) → slice_get rows c ≡ Some row → ys ≡ map f (take c rows) → y ≡ f row → ys ++ y ∷ [] ≡ map f (take (c + 1) rows)

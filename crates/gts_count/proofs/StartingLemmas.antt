@@ -1,13 +1,8 @@
 -- A start is noted item by item: its bulletins, the keys by their positions, and the kept draws.
-use Rattle.std.proofs.Common.{◌≡◌, ℕ, ◌+◌, ◌<◌, Bool, true, false, ◌==◌, cond, List, [], ◌∷◌, ◌++◌, length, get_or, take, map, filter, Option, Some, None, is_some, refl, sym, ap, subst, ◌∙◌, arith, IsTrue, option_map}
-use Rattle.gts_count.specs.Cited.{All, BTreeMap, Buffer, Bulletin, CircuitNeed, Directory, HasKeys, NotesAll, NotesDraw, NotesDraws, NotesKept, NotesStart, Numbers, Recent, all_joined, at_position, get, has_row, is_eq, is_recent, kept_with, key_of, nat_cmp, recent_in, recent_of, ring_with}
-use Rattle.std.proofs.lemmas.Bool.{eqb-true, eq-eqb, ne_eqb, cases_lt, cases_eq}
-use Rattle.std.proofs.lemmas.List.{length-map, map-append, take-map, get_or-map, get_or-set_same, get_or-set_other, set-set, length-set}
-use Rattle.std.proofs.lemmas.List.Elements.{All-append, filter-append}
+use Rattle.gts_count.proofs.Cited.{◌≡◌, ℕ, ◌+◌, ◌<◌, Bool, true, false, ◌==◌, cond, List, [], ◌∷◌, ◌++◌, length, get_or, take, map, filter, Option, Some, None, is_some, refl, sym, ap, subst, ◌∙◌, arith, IsTrue, option_map, All, BTreeMap, Buffer, Bulletin, CircuitNeed, Directory, HasKeys, NotesAll, NotesDraw, NotesDraws, NotesKept, NotesStart, Numbers, Recent, all_joined, at_position, has_row, is_eq, is_recent, kept_with, key_of, nat_cmp, recent_in, recent_of, ring_with, eqb-true, eq-eqb, ne_eqb, cases_lt, cases_eq, length-map, map-append, take-map, get_or-map, get_or-set_same, get_or-set_other, set-set, length-set, All-append, filter-append, last_more, common_steps}
+use Rattle.gts_count.specs.Cited.{get}
 use Rattle.gts_count.proofs.SoundLemmas.{single}
 use Rattle.gts_count.proofs.StepLemmas.{all_joined-append}
-use Rattle.gts_event.proofs.LawLemmas.{last_more}
-use Rattle.std.proofs.lemmas.Grind.{common_steps}
 
 -- one item more
 pub item_more : {A B : Type 0} (f : A → B) (xs : List A) (i : ℕ) (x : A) → i < length xs → x ≡ get_or xs i x → take (i + 1) (map f xs) ≡ take i (map f xs) ++ f x ∷ []

@@ -1,11 +1,6 @@
 -- What is counted of a need is what is counted of its state; and what changes that.
-use Rattle.std.proofs.Common.{◌≡◌, ℕ, zero, suc, ◌+◌, ◌-◌, ◌<◌, true, false, ◌||◌, ◌==◌, nat_lt, cond, List, [], ◌∷◌, ◌++◌, length, get_or, set, drop, map, zip, Option, Some, None, refl, sym, ap, ◌∙◌, inl, inr, arith}
-use Rattle.gts_count.specs.Cited.{Bulletin, Circuit, CircuitNeed, CircuitState, Directory, Recent, State, Tally, all_owed_last, are_below, circuit_need, circuit_needs, drawn_of, enumerate_from, find, has, idle, keep_last, key_at, key_of, last_of, list_all, list_any, need, routed_to, tally, tally_at, with_routed}
-use Rattle.std.proofs.lemmas.Bool.{true≢false, eqb-true, eq-eqb, ne_eqb, ltb-true, or_left, or_right, or_cases, and_parts}
-use Rattle.std.proofs.lemmas.List.{drop-map, length-map, map-append}
+use Rattle.gts_count.proofs.Cited.{◌≡◌, ℕ, zero, suc, ◌+◌, ◌-◌, ◌<◌, true, false, ◌||◌, ◌==◌, nat_lt, cond, List, [], ◌∷◌, ◌++◌, length, get_or, set, drop, map, zip, Option, Some, None, refl, sym, ap, ◌∙◌, inl, inr, arith, Bulletin, Circuit, CircuitNeed, CircuitState, Directory, Recent, State, Tally, all_owed_last, are_below, circuit_need, circuit_needs, drawn_of, enumerate_from, find, has, idle, keep_last, key_at, key_of, last_of, list_all, list_any, need, routed_to, tally, tally_at, with_routed, true≢false, eqb-true, eq-eqb, ne_eqb, ltb-true, or_left, or_right, or_cases, and_parts, drop-map, length-map, map-append, find_filter, has_drop, last_more, common_steps}
 use Rattle.gts_count.proofs.WindowLemmas.{counts_window}
-use Rattle.gts_event.proofs.LawLemmas.{find_filter, has_drop, last_more}
-use Rattle.std.proofs.lemmas.Grind.{common_steps}
 
 -- ---- a need has the bulletins that its kept draws have
 

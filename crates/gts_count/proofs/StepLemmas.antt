@@ -1,11 +1,5 @@
 -- The bulletins of the window, when one more joins them.
-use Rattle.std.proofs.Common.{◌≡◌, ℕ, ◌+◌, ◌-◌, ◌<◌, ◌≤◌, Bool, true, false, ◌||◌, ◌==◌, nat_lt, nat_le, cond, List, [], ◌∷◌, ◌++◌, length, map, filter, refl, sym, ap, subst, ◌∙◌, arith}
-use Rattle.gts_count.specs.Cited.{Bulletin, Climbs, Directory, IsHeld, Recent, State, all_joined, is_bulletin, is_recent, joined, list_all, positions_of, recent_in, recent_of}
-use Rattle.std.proofs.lemmas.Bool.{ne_eqb, ltb-true, le-leb, leb-true, lt-leb, cases_lt, and_parts}
-use Rattle.std.proofs.lemmas.List.{append-nil, append_assoc, length-append}
-use Rattle.std.proofs.lemmas.List.Elements.{filter-append}
-use Rattle.gts_event.proofs.LawLemmas.{bulletin-parts}
-use Rattle.std.proofs.lemmas.Grind.{common_steps}
+use Rattle.gts_count.proofs.Cited.{◌≡◌, ℕ, ◌+◌, ◌-◌, ◌<◌, ◌≤◌, Bool, true, false, ◌||◌, ◌==◌, nat_lt, nat_le, cond, List, [], ◌∷◌, ◌++◌, length, map, filter, refl, sym, ap, subst, ◌∙◌, arith, Bulletin, Climbs, Directory, IsHeld, Recent, State, all_joined, is_bulletin, is_recent, joined, list_all, positions_of, recent_in, recent_of, ne_eqb, ltb-true, le-leb, leb-true, lt-leb, cases_lt, and_parts, append-nil, append_assoc, length-append, filter-append, bulletin-parts, common_steps}
 
 -- ---- bulletins in the order of their positions, among the last ones of so many
 

@@ -1,9 +1,5 @@
 -- What a take leads to, a loss, and an opening of the journal, beside the numbers.
-use Rattle.std.proofs.Common.{◌≡◌, ℕ, zero, suc, ◌+◌, ◌<◌, Bool, true, false, ◌&&◌, ◌==◌, cond, List, [], ◌∷◌, ◌++◌, length, get_or, map, Option, Some, None, Result, Ok, Err, slice_get, refl, sym, ap, ◌∙◌, arith, IsTrue}
-use Rattle.gts_count.specs.Cited.{Accepted, AfterHeard, AfterTaken, Asked, Bulletin, Circuit, Counting, Counts, Directory, DiskFault, Draw, Duplicate, Entry, Follows, FrameField, Full, GoesOn, IsDrawn, IsTold, Knows, LineLost, Lost, NoMemory, Nothing, OpenFault, Outcome, Refused, Resend, Restarted, SayFault, Spent, State, Stopped, SwitchFault, Taken, after, after_all, choice, digits_on, find, has_row, is_bulletin, key_of, key_of_frame, list_all, numbered_frame, on, outcome, restart_of, restarted, spoken}
-use Rattle.std.proofs.lemmas.Bool.{true≢false}
-use Rattle.std.proofs.lemmas.List.{length-map}
-use Rattle.gts_event.proofs.LawLemmas.{outcome-same, spoken-same, bulletin-parts}
+use Rattle.gts_count.proofs.Cited.{◌≡◌, ℕ, zero, suc, ◌+◌, ◌<◌, Bool, true, false, ◌&&◌, ◌==◌, cond, List, [], ◌∷◌, ◌++◌, length, get_or, map, Option, Some, None, Result, Ok, Err, slice_get, refl, sym, ap, ◌∙◌, arith, IsTrue, Accepted, AfterHeard, AfterTaken, Asked, Bulletin, Circuit, Counting, Counts, Directory, DiskFault, Draw, Duplicate, Entry, Follows, FrameField, Full, GoesOn, IsDrawn, IsTold, Knows, LineLost, Lost, NoMemory, Nothing, OpenFault, Outcome, Refused, Resend, Restarted, SayFault, Spent, State, Stopped, SwitchFault, Taken, after, after_all, choice, digits_on, find, has_row, is_bulletin, key_of, key_of_frame, list_all, numbered_frame, on, outcome, restart_of, restarted, spoken, true≢false, length-map, outcome-same, spoken-same, bulletin-parts}
 use Rattle.gts_count.proofs.KeyLemmas.{key_frame, draw_says, said_bytes}
 use Rattle.gts_count.proofs.FollowLemmas.{follows_taken, follows_restarted, follows_drawn, drawn_there, choice_is}
 use Rattle.gts_count.proofs.CountingLemmas.{circuits_of, carried, carried_by, all_rest, same_after, outdated_after, counts_more}

@@ -1,11 +1,5 @@
 -- The bulletins of the window, when one more is accepted.
-use Rattle.std.proofs.Common.{◌≡◌, ℕ, ◌+◌, ◌≤◌, nat_le, List, [], ◌∷◌, ◌++◌, map, filter, refl, sym, ap, ◌∙◌}
-use Rattle.gts_count.specs.Cited.{Accepted, Bulletin, Directory, HasWindow, Heard, Kind, Outcome, Recent, State, after, after_heard, arrived, body_of, counted_with, has, heading_of_message, heard_of, last_counted, named, need, outcome, recent, recent_of, tally}
-use Rattle.gts_event.specs.History.{with_bulletin}
-use Rattle.std.proofs.lemmas.List.{map-append}
-use Rattle.gts_event.proofs.LawLemmas.{filter_first, recent_more, recent_all, accepted_position}
-use Rattle.std.proofs.lemmas.Grind.{common_steps}
-use Rattle.std.proofs.Common.{arith}
+use Rattle.gts_count.proofs.Cited.{◌≡◌, ℕ, ◌+◌, ◌≤◌, nat_le, List, [], ◌∷◌, ◌++◌, map, filter, refl, sym, ap, ◌∙◌, Accepted, Bulletin, Directory, HasWindow, Heard, Kind, Outcome, Recent, State, after, after_heard, arrived, body_of, counted_with, has, heading_of_message, heard_of, last_counted, named, need, outcome, recent, recent_of, tally, with_bulletin, map-append, filter_first, recent_more, recent_all, accepted_position, common_steps, arith}
 
 -- what is counted is what the window has, though a need has fewer bulletins than a state
 pub counts_window : (d : Directory) (t : State) → (tally d (need d t)).recent ≡ map recent_of (recent d t)

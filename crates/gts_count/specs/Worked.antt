@@ -1,5 +1,6 @@
 -- Worked rows: tables of literal histories.
 use Rattle.std.specs.Prelude.{◌≡◌, List, [], ◌∷◌, ◌++◌, flat_map, codes, ℕ}
+unfoldable pub use Rattle.std.specs.Fmt.{digits}
 use Rattle.gts_count.specs.Cited.Below.{Directory, Entry, Need, after_all, begun, empty, need, nothing}
 use Rattle.gts_event.specs.Worked.{two, keeping, heard, first, second, report, take_on, reported, start_of, with_draws}
 use Rattle.gts_count.specs.Table.{table}

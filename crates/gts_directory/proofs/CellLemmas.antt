@@ -1,15 +1,6 @@
 -- The cells of a heading against a pattern, and the table as rules are added and looked up.
-use Rattle.std.proofs.Common.{◌≡◌, ℕ, suc, ◌+◌, ◌*◌, ◌/◌, ◌%◌, ◌^◌, ◌<◌, ◌≤◌, max, Bool, true, false, ◌&&◌, ◌||◌, ◌==◌, List, [], ◌∷◌, ◌++◌, length, take, drop, get_or, set, replicate, bit_or, refl, sym, ◌∙◌, ap, arith, inl, inr, length-append, length-drop, length-set}
-use Rattle.gts_directory.specs.Cited.{All, AreCharacters, HeadingFields, IsCharacter, IsTable, RuleRow, allows, bit, bit_at, bits_of, cell_of, cells_of, dec, fitting, has_bit, joined, list_all, list_any, marked, matches, meet}
-use Rattle.std.proofs.Math.Nat.{pow-le-pow_right}
-use Rattle.std.proofs.Math.Seq.{take-add}
-use Rattle.std.proofs.lemmas.Bool.{cases_eq}
-use Rattle.std.proofs.lemmas.Nat.Bits.{bit_at_or}
-use Rattle.std.proofs.lemmas.List.{get_or_read, get_or-drop, get_or-take, get_or_append_left, get_or_at, get_or-replicate, get_or-set_same, get_or-set_other, take_all, drop_all, take-append-le, drop-append-le, length-take}
-use Rattle.std.proofs.lemmas.List.Elements.{All-push}
-use Rattle.std.proofs.lemmas.List.Folds.{list_any-append}
+use Rattle.gts_directory.proofs.Cited.{◌≡◌, ℕ, suc, ◌+◌, ◌*◌, ◌/◌, ◌%◌, ◌^◌, ◌<◌, ◌≤◌, max, Bool, true, false, ◌&&◌, ◌||◌, ◌==◌, List, [], ◌∷◌, ◌++◌, length, take, drop, get_or, set, replicate, bit_or, refl, sym, ◌∙◌, ap, arith, inl, inr, length-append, length-drop, length-set, All, AreCharacters, HeadingFields, IsCharacter, IsTable, RuleRow, allows, bit, bit_at, bits_of, cell_of, cells_of, dec, fitting, has_bit, joined, list_all, list_any, marked, matches, meet, pow-le-pow_right, take-add, cases_eq, bit_at_or, get_or_read, get_or-drop, get_or-take, get_or_append_left, get_or_at, get_or-replicate, get_or-set_same, get_or-set_other, take_all, drop_all, take-append-le, drop-append-le, length-take, All-push, list_any-append, common_steps}
 use Rattle.gts_directory.proofs.TableLemmas.{bits_of-agree, bits_of-lt, bits_of-push, meet-bits, joined-none, joined-bits}
-use Rattle.std.proofs.lemmas.Grind.{common_steps}
 
 allows-cell : (pattern : List ℕ) (place character : ℕ) → IsCharacter character
     → allows pattern (cell_of place character) ≡ ((get_or pattern place 0 == 42) || (get_or pattern place 0 == character))

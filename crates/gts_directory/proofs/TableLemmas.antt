@@ -1,12 +1,5 @@
 -- Bits of rules: of those that pass a test, of those that pass two, and of those that a heading's cells leave.
-use Rattle.std.proofs.Common.{◌≡◌, ◌≢◌, ℕ, zero, suc, ◌+◌, ◌-◌, ◌*◌, ◌/◌, ◌%◌, ◌^◌, ◌<◌, ◌≤◌, min, max, Bool, true, false, ◌&&◌, ◌||◌, ◌==◌, nat_lt, List, [], ◌∷◌, ◌++◌, length, take, drop, get_or, bit_and, bit_or, refl, sym, ◌∙◌, ap, arith, inl, inr}
-use Rattle.gts_directory.specs.Cited.{All, RuleRow, allows, bit, bit_at, bits_of, fitting, joined, list_all, list_any, marked, meet, trailing_zeros, w64}
-use Rattle.std.proofs.Math.Nat.{pow-suc}
-use Rattle.std.proofs.lemmas.Bool.{cases_Bool, ltb-true}
-use Rattle.std.proofs.lemmas.Bool.Decides.{nat_tests}
-use Rattle.std.proofs.lemmas.Nat.{or_comm, or_shifted, one_shl}
-use Rattle.std.proofs.lemmas.Nat.Bits.{bit_at_or, bit_at-trailing_zeros, bit_at_lowest, bit_at-suc, bit_at-zero, bit_at_and, bit_at-lt, bit_at_above, same_from_bits}
-use Rattle.std.proofs.lemmas.Grind.{common_steps}
+use Rattle.gts_directory.proofs.Cited.{◌≡◌, ◌≢◌, ℕ, zero, suc, ◌+◌, ◌-◌, ◌*◌, ◌/◌, ◌%◌, ◌^◌, ◌<◌, ◌≤◌, min, max, Bool, true, false, ◌&&◌, ◌||◌, ◌==◌, nat_lt, List, [], ◌∷◌, ◌++◌, length, take, drop, get_or, bit_and, bit_or, refl, sym, ◌∙◌, ap, arith, inl, inr, All, RuleRow, allows, bit, bit_at, bits_of, fitting, joined, list_all, list_any, marked, meet, trailing_zeros, w64, pow-suc, cases_Bool, ltb-true, nat_tests, or_comm, or_shifted, one_shl, bit_at_or, bit_at-trailing_zeros, bit_at_lowest, bit_at-suc, bit_at-zero, bit_at_and, bit_at-lt, bit_at_above, same_from_bits, common_steps}
 
 half : (b : Bool) (n : ℕ) → (bit b + 2 * n) / 2 ≡ n
 half true n = omega arith

@@ -1,11 +1,8 @@
 -- Which directory takes over from another one: the loops over its rows, and what both forms of the definition say.
-use Rattle.std.proofs.Common.{◌≡◌, ℕ, zero, suc, ◌+◌, ◌<◌, ◌≤◌, Bool, true, false, nat_eq, List, [], ◌∷◌, length, map, get_or, drop, Option, None, Some, cond, refl, sym, ◌∙◌, ap, arith, inl, inr}
-use Rattle.gts_directory.specs.Cited.{BeginWith, Change, Circuit, Directory, KeepsPlace, Rows, TakesOver, change_in, circuit_of_row, directory_of_rows, first_change, first_changed, keeps_place, option_or, pointwise, row_keeps_place, top_stays}
-use Rattle.std.proofs.lemmas.Bool.{cases_Bool, eqb-true, and_parts}
+use Rattle.gts_directory.proofs.Cited.{◌≡◌, ℕ, zero, suc, ◌+◌, ◌<◌, ◌≤◌, Bool, true, false, nat_eq, List, [], ◌∷◌, length, map, get_or, drop, Option, None, Some, cond, refl, sym, ◌∙◌, ap, arith, inl, inr, BeginWith, Change, Circuit, Directory, KeepsPlace, Rows, TakesOver, change_in, circuit_of_row, directory_of_rows, first_change, first_changed, keeps_place, option_or, pointwise, row_keeps_place, top_stays, cases_Bool, eqb-true, and_parts, common_steps}
 use Rattle.gts_directory.specs.declared.fault.Part as part
 use Rattle.gts_directory.specs.declared.fault.Part.TheVariants as parts
 use Rattle.gts_directory.proofs.NameLemmas.{same_as_itself}
-use Rattle.std.proofs.lemmas.Grind.{common_steps}
 
 -- all rows below i stay
 pub record AllStayBelow {A : Type 0} (stays : A → A → Bool) (old new : List A) (i : ℕ) : Type 0 where

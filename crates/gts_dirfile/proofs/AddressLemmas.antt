@@ -1,9 +1,6 @@
 -- Texts that are read as addresses.
-use Rattle.std.proofs.Common.{◌≡◌, ◌↔◌, ℕ, List, [], ◌∷◌, length, Option, Some, None, option_map, refl, sym, ◌∙◌, ap, subst, append-nil, ne_eqb, lit≤, arith}
-use Rattle.std.proofs.lemmas.Option.{none-some}
-use Rattle.std.proofs.NetLemmas.Ipv4.{read_ipv4_sound, read_ipv4_complete}
-use Rattle.gts_dirfile.specs.Cited.{Ipv4Addr, IsDotted, IsIpv4Text, Read, address_of, address_of_text, ipv4_octets, whole_value}
-use Rattle.std.specs.Net.Reader.{read_ipv4}
+use Rattle.gts_dirfile.proofs.Cited.{◌≡◌, ◌↔◌, ℕ, List, [], ◌∷◌, length, Option, Some, None, option_map, refl, sym, ◌∙◌, ap, subst, append-nil, lit≤, arith, none-some, read_ipv4_sound, read_ipv4_complete, Ipv4Addr, IsDotted, IsIpv4Text, Read, address_of, address_of_text, ipv4_octets, whole_value, read_ipv4}
+use Rattle.std.proofs.Common.{ne_eqb}
 
 -- what is read is written so
 written : (text : List ℕ) (a : Ipv4Addr) (r : Read (List ℕ)) → read_ipv4 text ≡ r → option_map address_of (whole_value r) ≡ Some a → IsIpv4Text text a

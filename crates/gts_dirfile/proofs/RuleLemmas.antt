@@ -1,8 +1,5 @@
 -- The rows of the rules of a directory whose rows have no fault.
-use Rattle.std.proofs.Common.{◌≡◌, ℕ, zero, suc, ◌+◌, ◌^◌, ◌<◌, Bool, true, false, nat_lt, List, [], ◌∷◌, length, get_or, map, Option, None, Some, Ok, refl, sym, ap, subst, arith}
-use Rattle.gts_dirfile.specs.Cited.{AreRulesOf, DirFault, Directory, Rows, RuleRow, UnknownCircuit, checked, circuit_of_row, directory_of_rows, first_fault, first_row, option_or, rule_of_row, too_many, two_names, unknown_circuit, unless, unless_fault}
-use Rattle.std.proofs.lemmas.Bool.{ltb-true}
-use Rattle.std.proofs.lemmas.List.{length-map}
+use Rattle.gts_dirfile.proofs.Cited.{◌≡◌, ℕ, zero, suc, ◌+◌, ◌^◌, ◌<◌, Bool, true, false, nat_lt, List, [], ◌∷◌, length, get_or, map, Option, None, Some, Ok, refl, sym, ap, subst, arith, AreRulesOf, DirFault, Directory, Rows, RuleRow, UnknownCircuit, checked, circuit_of_row, directory_of_rows, first_fault, first_row, option_or, rule_of_row, too_many, two_names, unknown_circuit, unless, unless_fault, ltb-true, length-map}
 
 or_none : (a b : Option DirFault) → option_or a b ≡ None → (a ≡ None) × (b ≡ None)
 or_none None b h = (refl, h)

@@ -1,12 +1,11 @@
 -- Calls over the parts of an engine: room is made, an event enters, and it is told.
-use Rattle.std.proofs.Common.{◌≡◌, ◌≤◌, ◌++◌, ◌∷◌, if◌then◌else◌, Bool, true, false, inl, inr, ℕ, List, [], length, Option, Some, None, Result, Ok, Err, refl, sym, ap, subst, ◌∙◌, arith, IfErr, IfNone, IfOk, IfSome, OnOk, slice_index_or, ◌<◌}
-use Rattle.gts_engine.specs.Cited.{AsksOutput, AnswersIn, Core, Device, Directory, DiskFault, Engine, EngineParts, Event, Full, HasCallCause, HasEntered, HasStationCause, HasTold, Holds, IsAnswered, IsDeviceFault, IsSound, LeavesCall, MOST_TOGETHER, MayHaveSettled, NoMemory, Outcome, Outside, SayFault, SayMode, Spent, State, StationMeanings, Stopped, SwitchFault, by_station, bytes_wanted, engine_of, held_pieces, joined, meanings_of, most_drawn, on, outcome, spoken, stopped_after}
+use Rattle.gts_engine.proofs.Cited.{◌≡◌, ◌≤◌, ◌++◌, ◌∷◌, if◌then◌else◌, Bool, true, false, inl, inr, ℕ, List, [], length, Option, Some, None, Result, Ok, Err, refl, sym, ap, subst, ◌∙◌, arith, IfErr, IfNone, IfOk, IfSome, OnOk, ◌<◌, AsksOutput, AnswersIn, Core, Device, Directory, DiskFault, Engine, EngineParts, Event, Full, HasCallCause, HasEntered, HasStationCause, HasTold, Holds, IsAnswered, IsDeviceFault, IsSound, LeavesCall, MOST_TOGETHER, MayHaveSettled, NoMemory, Outcome, Outside, SayFault, SayMode, Spent, State, StationMeanings, Stopped, SwitchFault, by_station, bytes_wanted, engine_of, held_pieces, joined, meanings_of, most_drawn, on, outcome, spoken, stopped_after, common_steps}
+use Rattle.std.proofs.Common.{slice_index_or}
 use Rattle.gts_engine.proofs.TurnLemmas.{goes_on}
 use Rattle.gts_engine.proofs.AnswerLemmas.{EachHeld, answered, stopped_leaves}
 use Rattle.gts_engine.proofs.GatherLemmas.{fails_after}
 use Rattle.gts_engine.proofs.SettlingLemmas.{drawn_settled}
 use Rattle.gts_engine.proofs.StepLemmas.{part_directory, part_station, part_core, part_stopped, part_used, part_held, told_well, told_badly, told_sound, untold}
-use Rattle.std.proofs.lemmas.Grind.{common_steps}
 
 -- a call whose answer tells of no device that failed
 abbrev pub NoDevice : {T : Type 0} → Result T SwitchFault → Type 0

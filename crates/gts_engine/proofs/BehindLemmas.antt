@@ -1,6 +1,5 @@
 -- A take that is gathered behind what was, with nothing settled before.
-use Rattle.std.proofs.Common.{◌≡◌, ℕ, suc, ◌+◌, ◌≤◌, true, false, List, [], ◌∷◌, ◌++◌, length, Option, Some, Ok, None, refl, sym, ap, subst, ◌∙◌, arith, length-append, IfNone, IfSome}
-use Rattle.gts_engine.specs.Cited.{Alone, AnswersIn, AreGathered, AtOnce, Behind, Caller, Directory, EngineParts, Entry, Event, Gathers, GathersOne, Holds, IsOneMore, Origin, Outcome, Outside, Record, SayMode, Shown, State, StationMeanings, Taken, TakesBehind, after, engine_of, gathered_after, joined, meanings_of, outcome as outcome_of, pieces, shown, state_at, state_behind}
+use Rattle.gts_engine.proofs.Cited.{◌≡◌, ℕ, suc, ◌+◌, ◌≤◌, true, false, List, [], ◌∷◌, ◌++◌, length, Option, Some, Ok, None, refl, sym, ap, subst, ◌∙◌, arith, length-append, IfNone, IfSome, Alone, AnswersIn, AreGathered, AtOnce, Behind, Caller, Directory, EngineParts, Entry, Event, Gathers, GathersOne, Holds, IsOneMore, Origin, Outcome, Outside, Record, SayMode, Shown, State, StationMeanings, Taken, TakesBehind, after, engine_of, gathered_after, joined, meanings_of, outcome as outcome_of, pieces, shown, state_at, state_behind}
 
 pub length_pieces : (mode : SayMode) (d : Directory) (s : State) (events : List Event) → length (pieces mode d s events) ≡ length events
 length_pieces mode d s [] = refl

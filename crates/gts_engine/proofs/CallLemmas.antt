@@ -1,10 +1,7 @@
 -- Calls that gather, and settle behind it.
-use Rattle.std.proofs.Common.{◌≡◌, ℕ, Option, Some, None, Result, Ok, Err, refl, sym, ap, subst, ◌∙◌, IfErr, IfSome}
-use Rattle.gts_engine.specs.Cited.{Device, DiskFault, Engine, Event, Full, HasCallCause, IsAnswered, IsCalled, IsDeviceFault, IsIdleAnswer, IsSettling, NoMemory, Outcome, SayFault, SayMode, Spent, StationMeanings, Stopped, SwitchFault, meanings_of, stopped_after}
+use Rattle.gts_engine.proofs.Cited.{◌≡◌, ℕ, Option, Some, None, Result, Ok, Err, refl, sym, ap, subst, ◌∙◌, IfErr, IfSome, Device, DiskFault, Engine, Event, Full, HasCallCause, IsAnswered, IsCalled, IsDeviceFault, IsIdleAnswer, IsSettling, NoMemory, Outcome, SayFault, SayMode, Spent, StationMeanings, Stopped, SwitchFault, meanings_of, stopped_after, common_steps, arith}
 use Rattle.gts_engine.proofs.AnswerLemmas.{called_failed, called_unsettled, called_done}
 use Rattle.gts_engine.proofs.AnsweringLemmas.{NoDevice, cause_then, cause_alike, cause_none}
-use Rattle.std.proofs.lemmas.Grind.{common_steps}
-use Rattle.std.proofs.Common.{arith}
 
 -- the fault of a device stops by whatever call it was answered, whatever stopped before
 pub device_stops : (S T : Type 0) (fault : SwitchFault) (before other : Option Device) → IsDeviceFault fault → stopped_after before (let r : Result S SwitchFault = Err fault in r) ≡ stopped_after other (let r : Result T SwitchFault = Err fault in r)

@@ -1,16 +1,7 @@
 -- The journal is compacted: what a crash leaves meanwhile, and where the journal stands then.
-use Rattle.std.proofs.Common.{◌≡◌, ◌≢◌, inl, inr, ℕ, ◌+◌, ◌-◌, ◌*◌, ◌^◌, ◌<◌, ◌≤◌, nat_lt, Bool, true, cond, List, [], length, Some, None, Ok, refl, sym, ap, subst, ◌∙◌, arith, min}
-use Rattle.std.proofs.lemmas.Bool.{lt-ltb, le-ltb, cases_eq}
-use Rattle.gts_engine.specs.Cited.{Call, Core, Directory, EachSince, Files, Full, HasWritten, Holds, InHand, IsClosedAt, IsGoing, LeavesBoth, LeavesOthers, Need, OpensAsBefore, Outside, SameNeed, StandsFor, StandsOn, State, Version, WorksBeside, begun, checkpoint_file, checkpoint_text, closed_gate, compacted_bytes, draw_size, due, file_opens, full_compacted, is_sound, need, need_seal, opened_of, opens, restarted, seal_size, seen, selected, selecting as selecting_at, unowed, unowed_state, written}
-use Rattle.gts_traits.proofs.LawLemmas.{weaker, started}
-use Rattle.gts_event.proofs.LawLemmas.{need-begun, ordered-begun, routed_once-begun, held-begun, sound-held, sound-parts}
-use Rattle.gts_core.proofs.LawLemmas.{held-same}
-use Rattle.gts_opening.proofs.LawLemmas.{compacted_opened, opened_again, file_opens-checkpoint, room_for, due-left, begun-unowed, selected_few}
-use Rattle.gts_journal.proofs.LawLemmas.{both_left}
-use Rattle.gts_recovery.proofs.LawLemmas.{closed_there, still_stands}
+use Rattle.gts_engine.proofs.Cited.{◌≡◌, ◌≢◌, inl, inr, ℕ, ◌+◌, ◌-◌, ◌*◌, ◌^◌, ◌<◌, ◌≤◌, nat_lt, Bool, true, cond, List, [], length, Some, None, Ok, refl, sym, ap, subst, ◌∙◌, arith, min, lt-ltb, le-ltb, cases_eq, Call, Core, Directory, EachSince, Files, Full, HasWritten, Holds, InHand, IsClosedAt, IsGoing, LeavesBoth, LeavesOthers, Need, OpensAsBefore, Outside, SameNeed, StandsFor, StandsOn, State, Version, WorksBeside, begun, checkpoint_file, checkpoint_text, closed_gate, compacted_bytes, draw_size, due, file_opens, full_compacted, is_sound, need, need_seal, opened_of, opens, restarted, seal_size, seen, selected, selecting as selecting_at, unowed, unowed_state, written, weaker, started, need-begun, ordered-begun, routed_once-begun, held-begun, sound-held, sound-parts, held-same, compacted_opened, opened_again, file_opens-checkpoint, room_for, due-left, begun-unowed, selected_few, both_left, closed_there, still_stands, common_steps}
 use Rattle.gts_engine.proofs.GoingLemmas.{opened_same, images}
 use Rattle.gts_engine.proofs.ReopenLemmas.{opens_by}
-use Rattle.std.proofs.lemmas.Grind.{common_steps}
 
 -- ---- an engine that goes on
 

@@ -1,14 +1,9 @@
 -- What an engine stands for whose journal was compacted, or was to be.
-use Rattle.std.proofs.Common.{◌≡◌, true, ℕ, List, [], ◌∷◌, ◌++◌, length, Option, Some, None, Ok, Err, refl, sym, ap, subst, ◌∙◌, arith, false}
-use Rattle.gts_engine.specs.Cited.{AllByRecursion, Core, Device, Directory, Disk, DiskFault, EachSince, Engine, Entry, Files, HasFailed, HasSaid, Holds, IsAnchor, IsCompaction, IsImage, IsLeft, IsReading, Keeps, LeavesFront, Need, Needs, NoMemory, OpensAsBefore, OpensToReading, Origin, Outside, SaidSince, SameNeed, SayMode, Shown, StationMeanings, StaysAt, begun, compacted_after, compacted_bytes, history_of, is_sound, last_or, need, said_by, shown, state_at, told, used_at, written}
-use Rattle.std.proofs.lemmas.List.{append-nil, take_all, drop_all}
-use Rattle.gts_traits.proofs.LawLemmas.{weaker, joined}
-use Rattle.gts_event.proofs.LawLemmas.{need-begun, ordered-begun}
-use Rattle.gts_opening.proofs.LawLemmas.{caused-compaction}
+use Rattle.gts_engine.proofs.Cited.{◌≡◌, true, ℕ, List, [], ◌∷◌, ◌++◌, length, Option, Some, None, Ok, Err, refl, sym, ap, subst, ◌∙◌, arith, false, AllByRecursion, Core, Device, Directory, Disk, DiskFault, EachSince, Engine, Entry, Files, HasFailed, HasSaid, Holds, IsAnchor, IsCompaction, IsImage, IsLeft, IsReading, Keeps, LeavesFront, Need, Needs, NoMemory, OpensAsBefore, OpensToReading, Origin, Outside, SaidSince, SameNeed, SayMode, Shown, StationMeanings, StaysAt, begun, compacted_after, compacted_bytes, history_of, is_sound, last_or, need, said_by, shown, state_at, told, used_at, written, append-nil, take_all, drop_all, weaker, need-begun, ordered-begun, caused-compaction, common_steps}
+use Rattle.gts_traits.proofs.LawLemmas.{joined}
 use Rattle.gts_engine.proofs.EntryLemmas.{used_since, read_itself}
 use Rattle.gts_engine.proofs.TurnLemmas.{settle_keeps}
 use Rattle.gts_engine.proofs.LeavingLemmas.{at_end, whole}
-use Rattle.std.proofs.lemmas.Grind.{common_steps}
 
 last_end : (first : Option ℕ) (cs : List ℕ) (k : ℕ) → last_or first (cs ++ k ∷ []) ≡ Some k
 last_end first [] k = refl

@@ -1,6 +1,5 @@
 -- Calls that settle first what was gathered.
-use Rattle.std.proofs.Common.{◌≡◌, List, Result, Ok, Err, sym, ◌∙◌}
-use Rattle.gts_engine.specs.Cited.{Engine, Entry, Event, IsCompaction, IsHeardWithRoom, IsReopening, IsSettling, Keeps, OpenFault, Origin, Outcome, SayMode, Station, StationMeanings, SwitchFault, meanings_of, shown, switch_meanings}
+use Rattle.gts_engine.proofs.Cited.{◌≡◌, List, Result, Ok, Err, sym, ◌∙◌, Engine, Entry, Event, IsCompaction, IsHeardWithRoom, IsReopening, IsSettling, Keeps, OpenFault, Origin, Outcome, SayMode, Station, StationMeanings, SwitchFault, meanings_of, shown, switch_meanings}
 use Rattle.gts_record.specs.declared.fault.OpenFault.TheVariants.{NoMemory}
 
 module _ {P : Type 0} (station : StationMeanings P) (old mid : Engine P) (settled : Result (Unit {0}) SwitchFault) (s : (mode : SayMode) → IsSettling (meanings_of station mode) settled old mid) where

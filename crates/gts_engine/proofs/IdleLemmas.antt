@@ -1,8 +1,6 @@
 -- A call that changes nothing, behind what was settled.
-use Rattle.std.proofs.Common.{◌≡◌, inr, ℕ, List, [], ◌∷◌, ◌++◌, true, false, Option, None, Result, Ok, Err, refl, sym, ap, subst, ◌∙◌}
-use Rattle.gts_engine.specs.Cited.{AfterCall, AnswersIn, Core, Device, Directory, DiskFault, Engine, EngineParts, Entry, Event, Full, Gathers, GivesOrMemory, HasCallCause, HasOnlySettled, HasSettled, HasStationCause, Holds, Idle, IsAccepted, IsGathering, IsRoomFault, IsSettling, IsSound, IsUnchanged, Keeps, LeavesCall, NoMemory, Origin, Outcome, SayFault, SayMode, Shown, Spent, Standing, State, StationMeanings, Stopped, SwitchFault, all_done, engine_of, full, meanings_of, outcome, shown, shows, state_at, stopped_after, used_at}
+use Rattle.gts_engine.proofs.Cited.{◌≡◌, inr, ℕ, List, [], ◌∷◌, ◌++◌, true, false, Option, None, Result, Ok, Err, refl, sym, ap, subst, ◌∙◌, AfterCall, AnswersIn, Core, Device, Directory, DiskFault, Engine, EngineParts, Entry, Event, Full, Gathers, GivesOrMemory, HasCallCause, HasOnlySettled, HasSettled, HasStationCause, Holds, Idle, IsAccepted, IsGathering, IsRoomFault, IsSettling, IsSound, IsUnchanged, Keeps, LeavesCall, NoMemory, Origin, Outcome, SayFault, SayMode, Shown, Spent, Standing, State, StationMeanings, Stopped, SwitchFault, all_done, engine_of, full, meanings_of, outcome, shown, shows, state_at, stopped_after, used_at, IfOk-weaker, common_steps, arith}
 use Rattle.gts_core.specs.Core.{Keeps as KeepsCore}
-use Rattle.std.proofs.lemmas.Result.{IfOk-weaker}
 use Rattle.gts_engine.proofs.SettlingLemmas.{parts_settle}
 use Rattle.gts_engine.proofs.TurnLemmas.{idle}
 use Rattle.gts_engine.proofs.MarkedLemmas.{state_behind_marked}
@@ -10,8 +8,6 @@ use Rattle.gts_engine.proofs.AnswerLemmas.{EachHeld, at_state}
 use Rattle.gts_engine.proofs.StepLemmas.{part_directory, part_station, part_stopped, part_used, part_gathered}
 use Rattle.gts_engine.proofs.AnsweringLemmas.{NoDevice, answers_uncleared, no_device_done}
 use Rattle.gts_engine.proofs.HearingLemmas.{room_stops}
-use Rattle.std.proofs.lemmas.Grind.{common_steps}
-use Rattle.std.proofs.Common.{arith}
 
 -- a core that keeps what another holds
 pub gathers_kept : (observed : Type 0) (mode : SayMode) (o : Origin) (h : List Entry) (events : List Event) (e : Shown) (core : Core) → KeepsCore e.core core → Gathers observed mode o h events e → Gathers observed mode o h events (record e { core = core })

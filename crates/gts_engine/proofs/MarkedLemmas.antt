@@ -1,8 +1,5 @@
 -- Events that were done behind a history, said or not: what they come to and say is the same.
-use Rattle.std.proofs.Common.{◌≡◌, ℕ, ◌+◌, Bool, true, false, List, [], ◌∷◌, ◌++◌, map, None, refl, sym, ap, subst, ◌∙◌, append_assoc}
-use Rattle.std.proofs.lemmas.List.{append-nil}
-use Rattle.gts_engine.specs.Cited.{AreAnchors, Cause, Directory, Done, Doubt, Entry, Event, HasDoubt, HasFailed, HasUnsaid, History, IsCaused, Origin, Outside, SayMode, State, Unsaid, after, after_all, after_entry, all_done, begun, by_station, entry_bytes, history_of, keeps_one, outcome, record_bytes, said, spoken, spoken_of, state_at, state_behind, told, used_at, used_behind}
-use Rattle.gts_event.proofs.LawLemmas.{said-append, after_all-append}
+use Rattle.gts_engine.proofs.Cited.{◌≡◌, ℕ, ◌+◌, Bool, true, false, List, [], ◌∷◌, ◌++◌, map, None, refl, sym, ap, subst, ◌∙◌, append_assoc, append-nil, AreAnchors, Cause, Directory, Done, Doubt, Entry, Event, HasDoubt, HasFailed, HasUnsaid, History, IsCaused, Origin, Outside, SayMode, State, Unsaid, after, after_all, after_entry, all_done, begun, by_station, entry_bytes, history_of, keeps_one, outcome, record_bytes, said, spoken, spoken_of, state_at, state_behind, told, used_at, used_behind, said-append, after_all-append}
 use Rattle.gts_engine.proofs.EntryLemmas.{state_more, used_more, anchors_more, caused_more, no_doubt, no_unsaid, by_station-append}
 
 -- an event as it was done, said or not

@@ -1,11 +1,7 @@
 -- Pieces that are held, said one behind the other.
-use Rattle.std.proofs.Common.{◌≡◌, ◌<◌, inl, inr, ⊎_elim, ℕ, zero, suc, List, [], ◌∷◌, ◌++◌, length, take, drop, Result, Ok, refl, sym, ap, subst, ◌∙◌, arith, append_assoc, take-append-drop}
-use Rattle.gts_engine.specs.Cited.{Call, Directory, EachSince, InHand, IsFront, OpensAlong, OpensBetween, OpensToOneOf, Outside, SaidSince, Says, StandsFor, State, Tries, TriesPiece, joined, on, said_by, slice_index_or}
-use Rattle.std.proofs.lemmas.List.{append-nil}
-use Rattle.gts_traits.proofs.LawLemmas.{started, weaker, said_is, joined as one_by_one, told as say_told}
-use Rattle.gts_journal.proofs.LawLemmas.{images_open, say_stands_for}
+use Rattle.gts_engine.proofs.Cited.{◌≡◌, ◌<◌, inl, inr, ⊎_elim, ℕ, zero, suc, List, [], ◌∷◌, ◌++◌, length, take, drop, Result, Ok, refl, sym, ap, subst, ◌∙◌, arith, append_assoc, take-append-drop, Call, Directory, EachSince, InHand, IsFront, OpensAlong, OpensBetween, OpensToOneOf, Outside, SaidSince, Says, StandsFor, State, Tries, TriesPiece, joined, on, said_by, slice_index_or, append-nil, started, weaker, said_is, images_open, say_stands_for, common_steps}
+use Rattle.gts_traits.proofs.LawLemmas.{joined as one_by_one, told as say_told}
 use Rattle.gts_engine.proofs.TurnLemmas.{says_front}
-use Rattle.std.proofs.lemmas.Grind.{common_steps}
 
 -- ---- pieces
 

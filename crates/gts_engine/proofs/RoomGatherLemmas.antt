@@ -1,7 +1,5 @@
 -- Room is made for a bulletin that may be gathered.
-use Rattle.std.proofs.Common.{◌≡◌, inl, inr, ℕ, Bool, true, false, List, [], ◌∷◌, ◌++◌, Some, None, Result, Ok, Err, refl, sym, ap, subst, ◌∙◌, IsOk, IsSome, IfSome, is_ok}
-use Rattle.std.proofs.lemmas.List.{append-nil}
-use Rattle.gts_engine.specs.Cited.{Directory, Disk, DiskFault, Engine, Entry, Event, Full, Gathers, GivesRoom, HadRoomFor, HasOnlySettled, Heard, Holds, Idle, IsAccepted, IsAnswerCause, IsAnswered, IsCompactFault, IsCompaction, IsFullCompacted, IsFullEither, IsGatheredWithRoom, IsIdleFault, Keeps, Kind, NoMemory, Origin, Outcome, Say, SayFault, SayMode, Spent, Standing, State, StationMeanings, Stopped, SwitchFault, TellsSpare, after_all, all_done, begun, bytes_wanted, compacted_after, full, meanings_of, outcome, shown, state_at, state_behind, stopped_after, used_at}
+use Rattle.gts_engine.proofs.Cited.{◌≡◌, inl, inr, ℕ, Bool, true, false, List, [], ◌∷◌, ◌++◌, Some, None, Result, Ok, Err, refl, sym, ap, subst, ◌∙◌, IsOk, IsSome, IfSome, is_ok, append-nil, Directory, Disk, DiskFault, Engine, Entry, Event, Full, Gathers, GivesRoom, HadRoomFor, HasOnlySettled, Heard, Holds, Idle, IsAccepted, IsAnswerCause, IsAnswered, IsCompactFault, IsCompaction, IsFullCompacted, IsFullEither, IsGatheredWithRoom, IsIdleFault, Keeps, Kind, NoMemory, Origin, Outcome, Say, SayFault, SayMode, Spent, Standing, State, StationMeanings, Stopped, SwitchFault, TellsSpare, after_all, all_done, begun, bytes_wanted, compacted_after, full, meanings_of, outcome, shown, state_at, state_behind, stopped_after, used_at}
 use Rattle.gts_engine.proofs.MarkedLemmas.{state_behind_marked, used_marked}
 use Rattle.gts_engine.proofs.TurnLemmas.{idle}
 use Rattle.gts_engine.proofs.CompactingLemmas.{used_compacted}

@@ -1,8 +1,7 @@
 -- Pieces that are held, said one behind the other, over the parts of an engine.
-use Rattle.std.proofs.Common.{◌≡◌, ◌<◌, ◌≤◌, ◌+◌, ℕ, List, [], ◌∷◌, ◌++◌, length, take, drop, Result, Ok, Err, refl, sym, ap, subst, ◌∙◌, arith, add-one, length-append, take_all, OnOk}
-use Rattle.gts_engine.specs.Cited.{AsksOutput, BringsAndSays, Call, Directory, DiskFault, EachSince, EngineParts, FailsAt, Gathered, HasBrought, HasRoom, InHand, MOST_TOGETHER, MayBring, OnlyBrought, OnlySaid, OpensAlong, Outside, SaidSince, Saying, Sayings, SaysHeld, StandsFor, StandsUnlessDisk, State, StationMeanings, SwitchFault, TriesPiece, after_records, held_pieces, joined, pieces_of, said_by, slice_index_or}
+use Rattle.gts_engine.proofs.Cited.{◌≡◌, ◌<◌, ◌≤◌, ◌+◌, ℕ, List, [], ◌∷◌, ◌++◌, length, take, drop, Result, Ok, Err, refl, sym, ap, subst, ◌∙◌, arith, add-one, length-append, OnOk, AsksOutput, BringsAndSays, Call, Directory, DiskFault, EachSince, EngineParts, FailsAt, Gathered, HasBrought, HasRoom, InHand, MOST_TOGETHER, MayBring, OnlyBrought, OnlySaid, OpensAlong, Outside, SaidSince, Saying, Sayings, SaysHeld, StandsFor, StandsUnlessDisk, State, StationMeanings, SwitchFault, TriesPiece, after_records, held_pieces, joined, pieces_of, said_by, slice_index_or, SaidSince-refl}
+use Rattle.std.proofs.Common.{take_all}
 use Rattle.gts_engine.proofs.PieceLemmas.{piece_stands, piece_moments, failed_part, piece_said, nothing_yet, brought_only, brought_then}
-use Rattle.gts_traits.proofs.LawLemmas.{SaidSince-refl}
 
 abbrev pub sayings_in : {P : Type 0} → EngineParts P → Sayings
 sayings_in p = p.held

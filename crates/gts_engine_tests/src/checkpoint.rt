@@ -3,7 +3,6 @@ ghost use Rattle.gts_event.specs.Items as items;
 ghost use Rattle.gts_checkpoint.specs.Writing.{FitBytes};
 
 use gts_checkpoint::{decode, read, size, write};
-use gts_directory::Directory;
 use gts_event::{Bulletin, Bulletins, Bytes, CircuitNeed, CircuitNeeds, Need, Places};
 use gts_frame::Kind;
 use gts_memory::MemStation;
@@ -32,6 +31,14 @@ fn circuit(alloc: Global, drawn: bool) -> Result<CircuitNeed, Fail> {
     })
 }
 
+/// What is needed of two circuits, of which the second one drew the first bulletin.
+fn circuits(alloc: Global) -> Result<CircuitNeeds, Fail> {
+    let mut circuits = CircuitNeeds::new();
+    circuits.push(alloc, circuit(alloc, false)?)?;
+    circuits.push(alloc, circuit(alloc, true)?)?;
+    Ok(circuits)
+}
+
 /// Writes bytes behind those of a body.
 fn push_all(alloc: Global, body: &mut Bytes, bytes: &[u8]) -> Result<(), Fail> {
     for byte in bytes {
@@ -55,6 +62,7 @@ fn body(alloc: Global, letters: u32) -> Result<Bytes, Fail> {
 fn one_draw(alloc: Global, letters: u32) -> Result<Need, Fail>
     ensures { IfOk result (λ need. FitBytes (items.need_of need)) }
 {
+    let circuits = circuits(alloc)?;
     let mut bulletins = Bulletins::new();
     bulletins.push(
         alloc,
@@ -65,9 +73,6 @@ fn one_draw(alloc: Global, letters: u32) -> Result<Need, Fail>
             body: body(alloc, letters)?,
         },
     )?;
-    let mut circuits = CircuitNeeds::new();
-    circuits.push(alloc, circuit(alloc, false)?)?;
-    circuits.push(alloc, circuit(alloc, true)?)?;
     Ok(Need {
         accepted: 1,
         bulletins,
@@ -97,13 +102,15 @@ fn put(rt: &impl Abort, station: &mut MemStation, place: u64, byte: u8) -> Resul
 /// The need that is read from the second file, and the place of the gate behind it.
 fn found<P: Station>(alloc: Global, station: &mut P) -> Result<(Need, u64), Fail> {
     let directory = two_circuits(alloc)?;
-    let (need, gate, _) = read(
+    let found = read(
         alloc,
         station,
         Version::written(),
         JournalFile::SECOND,
         &directory,
-    )?;
+    );
+    drop(directory);
+    let (need, gate, _) = found?;
     Ok((need, gate))
 }
 
@@ -112,15 +119,25 @@ fn has_one_draw(need: &Need) -> bool {
     need.accepted == 1 && need.bulletins.len() == 1 && need.circuits.len() == 2
 }
 
+/// A disk with the checkpoint of one draw, and how many bytes the need has as a record.
+fn one_written<R: AllocGlobal + Abort>(rt: &R, letters: u32) -> Result<(MemStation, u64), Fail> {
+    let need = one_draw(rt.alloc(), letters)?;
+    let station = written(rt, rt.alloc(), &need);
+    let size = size(&need);
+    drop(need);
+    Ok((station?, size))
+}
+
 #[test]
 fn a_checkpoint_is_read_as_it_was_written(rt: HostRuntime) -> Result<(), Fail> {
-    let need = one_draw(rt.alloc(), 3)?;
-    assert!(rt; size(&need) == 105);
-    let mut station = written(&rt, rt.alloc(), &need)?;
-    assert!(rt; station.size(JournalFile::SECOND)? == 179);
+    let (mut station, size) = one_written(&rt, 3)?;
+    assert!(rt; size == 105);
+    assert!(rt; station.size(JournalFile::SECOND) == Ok(179));
     let (need, gate) = found(rt.alloc(), &mut station)?;
     assert!(rt; gate == 178);
     assert!(rt; has_one_draw(&need));
+    drop(need);
+    drop(station);
     Ok(())
 }
 
@@ -140,8 +157,7 @@ const DAMAGED: [(u32, u64); 9] = [
 
 /// A disk whose second file holds the checkpoint of one draw, with another byte at a place.
 fn damaged<R: AllocGlobal + Abort>(rt: &R, letters: u32, place: u64) -> Result<MemStation, Fail> {
-    let need = one_draw(rt.alloc(), letters)?;
-    let mut station = written(rt, rt.alloc(), &need)?;
+    let (mut station, _) = one_written(rt, letters)?;
     put(rt, &mut station, place, 7)?;
     Ok(station)
 }
@@ -149,14 +165,16 @@ fn damaged<R: AllocGlobal + Abort>(rt: &R, letters: u32, place: u64) -> Result<M
 /// Why no checkpoint is read from the second file.
 fn fault_of<P: Station>(alloc: Global, station: &mut P) -> Result<Option<OpenFault>, Fail> {
     let directory = two_circuits(alloc)?;
-    Ok(read(
+    let fault = read(
         alloc,
         station,
         Version::written(),
         JournalFile::SECOND,
         &directory,
     )
-    .err())
+    .err();
+    drop(directory);
+    Ok(fault)
 }
 
 #[test]
@@ -173,25 +191,22 @@ fn a_damaged_byte_is_damage(rt: HostRuntime) -> Result<(), Fail> {
 }
 
 /// Whether the bytes from the first record of file 1 up to a place are decoded.
-fn is_decoded(
-    alloc: Global,
-    station: &MemStation,
-    directory: &Directory,
-    end: usize,
-) -> Result<bool, Fail> {
+fn is_decoded(alloc: Global, station: &MemStation, end: usize) -> Result<bool, Fail> {
+    let directory = two_circuits(alloc)?;
     let bytes = station
         .file(JournalFile::SECOND)
         .get(41..end)
         .unwrap_or(&[]);
-    Ok(decode(alloc, bytes, directory)?.is_some())
+    let decoded = decode(alloc, bytes, &directory);
+    drop(directory);
+    Ok(decoded?.is_some())
 }
 
 #[test]
 fn a_checkpoint_that_stands_in_no_file_is_decoded(rt: HostRuntime) -> Result<(), Fail> {
-    let alloc = rt.alloc();
-    let directory = two_circuits(alloc)?;
-    let station = written(&rt, alloc, &one_draw(alloc, 3)?)?;
-    assert!(rt; is_decoded(alloc, &station, &directory, 146)?);
-    assert!(rt; !is_decoded(alloc, &station, &directory, 145)?);
+    let (station, _) = one_written(&rt, 3)?;
+    assert!(rt; is_decoded(rt.alloc(), &station, 146)?);
+    assert!(rt; !is_decoded(rt.alloc(), &station, 145)?);
+    drop(station);
     Ok(())
 }

@@ -17,28 +17,68 @@ const RECEIPT: &[u8] = b"ACC 0 0 1 SMVG01 TVSV 280000\n";
 
 const FRAME: &[u8] = b"00000039AN\x01\r\r\n001\r\r\nSMVG01 TVSV 280000\r\r\nNIL=\r\r\n\x03";
 
+/// A station with a new journal, or how many calls were made until one failed.
+fn journal(
+    alloc: Global,
+    mark: [u8; 32],
+    failing: &[u64],
+) -> Result<Result<MemStation, u64>, Fail> {
+    let mut station = MemStation::new(alloc, failing)?;
+    if Journal::init(&mut station, mark).is_err() {
+        let calls = station.calls();
+        drop(station);
+        return Ok(Err(calls));
+    }
+    Ok(Ok(station))
+}
+
+/// An engine over a station, or how many calls were made until one failed.
+fn opened(
+    alloc: Global,
+    station: MemStation,
+    directory: Directory,
+) -> Result<Engine<MemStation>, u64> {
+    match Engine::open(alloc, station, directory) {
+        Ok(engine) => Ok(engine),
+        Err((station, _)) => {
+            let calls = station.calls();
+            drop(station);
+            Err(calls)
+        }
+    }
+}
+
 /// An engine over a new journal in memory, or how many calls were made until one failed.
-pub fn engine(
+fn engine(
     alloc: Global,
     directory: Directory,
     failing: &[u64],
 ) -> Result<Result<Engine<MemStation>, u64>, Fail> {
-    let mut station = MemStation::new(alloc, failing)?;
-    if Journal::init(&mut station, directory.mark()).is_err() {
-        return Ok(Err(station.calls()));
+    match journal(alloc, directory.mark(), failing) {
+        Ok(Ok(station)) => Ok(opened(alloc, station, directory)),
+        Ok(Err(calls)) => {
+            drop(directory);
+            Ok(Err(calls))
+        }
+        Err(fail) => {
+            drop(directory);
+            Err(fail)
+        }
     }
-    match Engine::open(alloc, station, directory) {
-        Ok(engine) => Ok(Ok(engine)),
-        Err((station, _)) => Ok(Err(station.calls())),
+}
+
+/// An engine over a new journal in memory, none of whose calls so far fails.
+fn begun(alloc: Global, directory: Directory, failing: &[u64]) -> Result<Engine<MemStation>, Fail> {
+    match engine(alloc, directory, failing)? {
+        Ok(engine) => Ok(engine),
+        Err(_) => Err(Fail::from("an engine")),
     }
 }
 
 /// An engine over a new journal in memory, none of whose calls fails.
-pub fn sound_engine(alloc: Global) -> Result<Engine<MemStation>, Fail> {
-    match engine(alloc, two_circuits(alloc)?, &[])? {
-        Ok(engine) => Ok(engine),
-        Err(_) => Err(Fail::from("an engine")),
-    }
+fn sound_engine(alloc: Global) -> Result<Engine<MemStation>, Fail> {
+    let directory = two_circuits(alloc)?;
+    begun(alloc, directory, &[])
 }
 
 /// What comes of the message on circuit 0.
@@ -70,46 +110,69 @@ const REPEATED: Option<Outcome> = Some(Outcome::Resend { index: 0 });
 
 /// The station of an engine that is done.
 pub fn station_in(engine: Engine<MemStation>) -> MemStation {
-    engine.into_parts().0
+    let (station, directory) = engine.into_parts();
+    drop(directory);
+    station
+}
+
+/// What comes of the message and of a take behind it, how many bytes are in use then, and the station.
+type Passed = ([Option<Outcome>; 2], u64, MemStation);
+
+/// The message goes from circuit 0 to circuit 1.
+fn passed(alloc: Global) -> Result<Passed, Fail> {
+    let mut out = FrameBuf::new(alloc)?;
+    let mut engine = sound_engine(alloc)?;
+    let heard = heard(alloc, &mut engine);
+    let taken = taken(&mut engine, &mut out, SayMode::Station);
+    let used = engine.used();
+    Ok(([heard, taken], used, station_in(engine)))
 }
 
 #[test]
 fn a_bulletin_goes_to_the_other_circuit(rt: HostRuntime) -> Result<(), Fail> {
-    let alloc = rt.alloc();
-    let mut out = FrameBuf::new(alloc)?;
-    let mut engine = sound_engine(alloc)?;
-    assert!(rt; heard(alloc, &mut engine) == ACCEPTED);
-    assert!(rt; taken(&mut engine, &mut out, SayMode::Station) == DRAWN);
-    assert!(rt; engine.used() == 175);
-    let station = station_in(engine);
+    let (outcomes, used, station) = passed(rt.alloc())?;
+    assert!(rt; outcomes == [ACCEPTED, DRAWN]);
+    assert!(rt; used == 175);
     assert!(rt; is_same(station.said(Channel::OPERATOR), RECEIPT));
     assert!(rt; is_same(station.said(Channel::of_circuit(1)), FRAME));
+    drop(station);
     Ok(())
 }
 
 /// An engine with the bulletin and its draw.
-fn drawn(alloc: Global, out: &mut FrameBuf) -> Result<Engine<MemStation>, Fail> {
+fn drawn(alloc: Global) -> Result<Engine<MemStation>, Fail> {
+    let mut out = FrameBuf::new(alloc)?;
     let mut engine = sound_engine(alloc)?;
     let _ = heard(alloc, &mut engine);
-    let _ = taken(&mut engine, out, SayMode::Station);
+    let _ = taken(&mut engine, &mut out, SayMode::Station);
     Ok(engine)
 }
 
 /// The same, opened once more.
-fn restarted(alloc: Global, out: &mut FrameBuf) -> Result<Engine<MemStation>, Fail> {
-    let mut engine = drawn(alloc, out)?;
+fn restarted(alloc: Global) -> Result<Engine<MemStation>, Fail> {
+    let mut engine = drawn(alloc)?;
     match engine.restart(alloc) {
         Ok(()) => Ok(engine),
-        Err(_) => Err(Fail::from("an engine that opens again")),
+        Err(_) => {
+            drop(engine);
+            Err(Fail::from("an engine that opens again"))
+        }
     }
+}
+
+/// What circuit 1 is given then.
+fn taken_behind(alloc: Global, out: &mut FrameBuf) -> Result<Option<Outcome>, Fail> {
+    let mut engine = restarted(alloc)?;
+    let outcome = taken(&mut engine, out, SayMode::Caller);
+    drop(engine);
+    Ok(outcome)
 }
 
 #[test]
 fn the_last_draw_is_repeated_after_an_opening(rt: HostRuntime) -> Result<(), Fail> {
-    let alloc = rt.alloc();
-    let mut out = FrameBuf::new(alloc)?;
-    let mut engine = restarted(alloc, &mut out)?;
-    assert!(rt; taken(&mut engine, &mut out, SayMode::Caller) == REPEATED);
+    let mut out = FrameBuf::new(rt.alloc())?;
+    let outcome = taken_behind(rt.alloc(), &mut out)?;
+    assert!(rt; outcome == REPEATED);
     assert!(rt; is_same(out.bytes(), FRAME));
     Ok(())
 }
@@ -126,7 +189,9 @@ fn lost(engine: &mut Engine<MemStation>) -> Option<Outcome> {
 fn stopped_by(alloc: Global, mut engine: Engine<MemStation>) -> Option<Device> {
     let _ = heard(alloc, &mut engine);
     let _ = lost(&mut engine);
-    engine.stopped()
+    let stopped = engine.stopped();
+    drop(engine);
+    stopped
 }
 
 /// What stopped an engine whose call with this number failed, after a message and a loss.
@@ -161,8 +226,8 @@ fn compact(alloc: Global, engine: &mut Engine<MemStation>) -> Option<u64> {
 type Compacted = (Engine<MemStation>, Option<u64>, Option<u64>);
 
 /// An engine with the bulletin and its draw, whose journal was compacted twice.
-fn compacted(alloc: Global, out: &mut FrameBuf) -> Result<Compacted, Fail> {
-    let mut engine = drawn(alloc, out)?;
+fn compacted(alloc: Global) -> Result<Compacted, Fail> {
+    let mut engine = drawn(alloc)?;
     let once = compact(alloc, &mut engine);
     let twice = compact(alloc, &mut engine);
     Ok((engine, once, twice))
@@ -170,32 +235,40 @@ fn compacted(alloc: Global, out: &mut FrameBuf) -> Result<Compacted, Fail> {
 
 #[test]
 fn a_compacted_journal_has_the_same_size_each_time(rt: HostRuntime) -> Result<(), Fail> {
-    let alloc = rt.alloc();
-    let mut out = FrameBuf::new(alloc)?;
-    let (engine, once, twice) = compacted(alloc, &mut out)?;
+    let (engine, once, twice) = compacted(rt.alloc())?;
     assert!(rt; once == Some(179) && twice == Some(179));
     let station = station_in(engine);
     assert!(rt; station.file(JournalFile::FIRST).len() == 179);
     assert!(rt; station.file(JournalFile::SECOND).len() == 179);
     assert!(rt; is_same(station.file(JournalFile::SELECTOR), &[0]));
+    drop(station);
     Ok(())
 }
 
 /// What circuit 1 is given by an engine that opens the files of another one.
 fn taken_again(alloc: Global, engine: Engine<MemStation>, out: &mut FrameBuf) -> Option<Outcome> {
     let (station, directory) = engine.into_parts();
-    match Engine::open(alloc, station, directory) {
-        Ok(mut engine) => taken(&mut engine, out, SayMode::Caller),
+    match opened(alloc, station, directory) {
+        Ok(mut engine) => {
+            let outcome = taken(&mut engine, out, SayMode::Caller);
+            drop(engine);
+            outcome
+        }
         Err(_) => None,
     }
 }
 
+/// The same of one whose journal was compacted.
+fn taken_behind_compactions(alloc: Global, out: &mut FrameBuf) -> Result<Option<Outcome>, Fail> {
+    let (engine, _, _) = compacted(alloc)?;
+    Ok(taken_again(alloc, engine, out))
+}
+
 #[test]
 fn a_compacted_journal_is_opened_again(rt: HostRuntime) -> Result<(), Fail> {
-    let alloc = rt.alloc();
-    let mut out = FrameBuf::new(alloc)?;
-    let (engine, _, _) = compacted(alloc, &mut out)?;
-    assert!(rt; taken_again(alloc, engine, &mut out) == REPEATED);
+    let mut out = FrameBuf::new(rt.alloc())?;
+    let outcome = taken_behind_compactions(rt.alloc(), &mut out)?;
+    assert!(rt; outcome == REPEATED);
     assert!(rt; is_same(out.bytes(), FRAME));
     Ok(())
 }
@@ -223,6 +296,16 @@ pub fn small(alloc: Global, repeat: u32) -> Result<Directory, Fail> {
         to: CircuitSet::NONE.with(1),
     })?;
     Ok(Directory::check(rows)?)
+}
+
+/// An engine under that directory over a new journal in memory, none of whose calls so far fails.
+pub fn small_engine(
+    alloc: Global,
+    repeat: u32,
+    failing: &[u64],
+) -> Result<Engine<MemStation>, Fail> {
+    let directory = small(alloc, repeat)?;
+    begun(alloc, directory, failing)
 }
 
 /// The message whose text is this number below 1,000.
@@ -266,31 +349,53 @@ fn accepted_of(
     accepted
 }
 
+/// How many of 600 bulletins were accepted, each of which is drawn, and how many bytes are in use then.
+fn accepted_and_drawn(alloc: Global) -> Result<(u32, u64), Fail> {
+    let mut out = FrameBuf::new(alloc)?;
+    let mut engine = small_engine(alloc, 1, &[])?;
+    let accepted = accepted_of(alloc, &mut engine, &mut out, 600, true);
+    let used = engine.used();
+    drop(engine);
+    Ok((accepted, used))
+}
+
 #[test]
 fn room_is_made_for_all_that_is_drawn(rt: HostRuntime) -> Result<(), Fail> {
-    let alloc = rt.alloc();
-    let mut out = FrameBuf::new(alloc)?;
-    let Ok(mut engine) = engine(alloc, small(alloc, 1)?, &[])? else {
-        return Err(Fail::from("an engine"));
-    };
-    assert!(rt; accepted_of(alloc, &mut engine, &mut out, 600, true) == 600);
-    assert!(rt; engine.used() < 30_000);
+    let (accepted, used) = accepted_and_drawn(rt.alloc())?;
+    assert!(rt; accepted == 600);
+    assert!(rt; used < 30_000);
     Ok(())
+}
+
+/// How many bulletins were accepted: of the first 600, of 50 behind them, and of 50 once as many were drawn as the first time
+/// were accepted.
+fn accepted_in_turns(
+    alloc: Global,
+    engine: &mut Engine<MemStation>,
+    out: &mut FrameBuf,
+) -> [u32; 3] {
+    let first = accepted_of(alloc, engine, out, 600, false);
+    let second = accepted_of(alloc, engine, out, 50, false);
+    for _ in 0..first {
+        let _ = taken(engine, out, SayMode::Caller);
+    }
+    [first, second, accepted_of(alloc, engine, out, 50, false)]
+}
+
+/// The same of a new engine.
+fn accepted_by_new(alloc: Global) -> Result<[u32; 3], Fail> {
+    let mut out = FrameBuf::new(alloc)?;
+    let mut engine = small_engine(alloc, 1, &[])?;
+    let accepted = accepted_in_turns(alloc, &mut engine, &mut out);
+    drop(engine);
+    Ok(accepted)
 }
 
 #[test]
 fn full_waits_until_draws_go_out(rt: HostRuntime) -> Result<(), Fail> {
-    let alloc = rt.alloc();
-    let mut out = FrameBuf::new(alloc)?;
-    let Ok(mut engine) = engine(alloc, small(alloc, 1)?, &[])? else {
-        return Err(Fail::from("an engine"));
-    };
-    let accepted = accepted_of(alloc, &mut engine, &mut out, 600, false);
-    assert!(rt; accepted > 100 && accepted < 300);
-    assert!(rt; accepted_of(alloc, &mut engine, &mut out, 50, false) == 0);
-    for _ in 0..accepted {
-        let _ = taken(&mut engine, &mut out, SayMode::Caller);
-    }
-    assert!(rt; accepted_of(alloc, &mut engine, &mut out, 50, false) == 50);
+    let [first, second, third] = accepted_by_new(rt.alloc())?;
+    assert!(rt; first > 100 && first < 300);
+    assert!(rt; second == 0);
+    assert!(rt; third == 50);
     Ok(())
 }

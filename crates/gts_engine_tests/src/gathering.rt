@@ -1,7 +1,8 @@
 //! Events that are gathered: what they do is settled behind one gate, and what is said of them comes behind it, in order.
 
-use crate::engine::{engine, numbered, small, station_in};
+use crate::engine::{numbered, small, small_engine, station_in};
 use crate::journal::crashed;
+use gts_directory::Directory;
 use gts_engine::{Engine, SayMode};
 use gts_event::{Device, SwitchFault};
 use gts_frame::{FrameBuf, FrameField, Kind};
@@ -91,14 +92,6 @@ fn gather_all(
     Ok(())
 }
 
-/// An engine over a new journal, whose rows have so many draws repeated, and on a station whose listed calls fail.
-fn begun(alloc: Global, repeat: u32, failing: &[u64]) -> Result<Engine<MemStation>, Fail> {
-    match engine(alloc, small(alloc, repeat)?, failing)? {
-        Ok(engine) => Ok(engine),
-        Err(_) => Err(Fail::from("an engine")),
-    }
-}
-
 /// An engine that gathered these events, and what came of them.
 fn gathered(
     alloc: Global,
@@ -107,7 +100,7 @@ fn gathered(
     events: &[Event],
 ) -> Result<(Engine<MemStation>, Result<(), SwitchFault>), Fail> {
     let mut out = FrameBuf::new(alloc)?;
-    let mut engine = begun(alloc, repeat, failing)?;
+    let mut engine = small_engine(alloc, repeat, failing)?;
     let result = gather_all(alloc, &mut engine, &mut out, events);
     Ok((engine, result))
 }
@@ -124,10 +117,18 @@ fn settled(
     Ok((engine, result))
 }
 
+/// How many calls were made of the station of an engine that is done.
+fn calls_in(engine: Engine<MemStation>) -> u64 {
+    let station = station_in(engine);
+    let calls = station.calls();
+    drop(station);
+    calls
+}
+
 /// The station of an engine that did each of the events alone.
 fn alone(alloc: Global) -> Result<MemStation, Fail> {
     let mut out = FrameBuf::new(alloc)?;
-    let mut engine = begun(alloc, 2, &[])?;
+    let mut engine = small_engine(alloc, 2, &[])?;
     for event in EVENTS {
         let _ = act(alloc, &mut engine, &mut out, event);
     }
@@ -143,45 +144,52 @@ fn nothing_is_done_or_said_before_it_is_settled(rt: HostRuntime) -> Result<(), F
     assert!(rt; station.calls() == OPENING);
     assert!(rt; station.said(Channel::OPERATOR).is_empty());
     assert!(rt; station.said(Channel::of_circuit(1)).is_empty());
+    drop(station);
     Ok(())
+}
+
+/// Whether two stations have the same journal, and the same was said by both.
+fn are_same(one: &MemStation, other: &MemStation) -> bool {
+    is_same(one.file(JournalFile::FIRST), other.file(JournalFile::FIRST))
+        && is_same(one.said(Channel::OPERATOR), other.said(Channel::OPERATOR))
+        && is_same(
+            one.said(Channel::of_circuit(1)),
+            other.said(Channel::of_circuit(1)),
+        )
 }
 
 #[test]
 fn several_events_share_one_gate(rt: HostRuntime) -> Result<(), Fail> {
-    let alloc = rt.alloc();
-    let (engine, result) = settled(alloc, 2, &[], &EVENTS)?;
-    assert!(rt; result == Ok(()));
+    let alone = alone(rt.alloc())?;
+    let (engine, result) = settled(rt.alloc(), 2, &[], &EVENTS)?;
     let station = station_in(engine);
-    let alone = alone(alloc)?;
+    assert!(rt; result == Ok(()));
     assert!(rt; station.calls() == OPENING + GATE + PIECES);
     assert!(rt; alone.calls() == OPENING + 4 * GATE + PIECES);
-    assert!(rt;
-        is_same(
-            station.file(JournalFile::FIRST),
-            alone.file(JournalFile::FIRST)
-        )
-    );
-    assert!(rt;
-        is_same(
-            station.said(Channel::OPERATOR),
-            alone.said(Channel::OPERATOR)
-        )
-    );
-    assert!(rt;
-        is_same(
-            station.said(Channel::of_circuit(1)),
-            alone.said(Channel::of_circuit(1))
-        )
-    );
+    assert!(rt; are_same(&station, &alone));
+    drop(station);
+    drop(alone);
     Ok(())
 }
 
 /// How many bytes are in use by the files of a station, once they are opened.
-fn used_by(alloc: Global, station: MemStation) -> Result<Option<u64>, Fail> {
-    match Engine::open(alloc, station, small(alloc, 2)?) {
-        Ok(engine) => Ok(Some(engine.used())),
-        Err(_) => Ok(None),
+fn used_under(alloc: Global, station: MemStation, directory: Directory) -> Option<u64> {
+    match Engine::open(alloc, station, directory) {
+        Ok(engine) => {
+            let used = engine.used();
+            drop(engine);
+            Some(used)
+        }
+        Err((station, _)) => {
+            drop(station);
+            None
+        }
     }
+}
+
+/// The same under the small directory.
+fn used_by(alloc: Global, station: MemStation) -> Result<Option<u64>, Fail> {
+    Ok(used_under(alloc, station, small(alloc, 2)?))
 }
 
 /// How many pieces of the events a station said, one behind the other.
@@ -202,6 +210,15 @@ fn said_until(alloc: Global, call: u64) -> Result<(u64, Option<u64>), Fail> {
     Ok((pieces, used_by(alloc, station)?))
 }
 
+/// Gathers a loss.
+fn lose(engine: &mut Engine<MemStation>) -> Result<(), SwitchFault> {
+    if engine.directory().circuits() == 0 {
+        return Ok(());
+    }
+    engine.gather_lost(0, FrameField::Kind)?;
+    Ok(())
+}
+
 /// What stops an engine that settles while the listed call fails, what that comes to, and what comes of an event then.
 fn stopped_at(
     alloc: Global,
@@ -214,10 +231,11 @@ fn stopped_at(
     ),
     Fail,
 > {
-    let mut out = FrameBuf::new(alloc)?;
     let (mut engine, first) = settled(alloc, 2, &[call], &EVENTS)?;
-    let second = gather(alloc, &mut engine, &mut out, Event::Lose);
-    Ok((engine.stopped(), first, second))
+    let second = lose(&mut engine);
+    let stopped = engine.stopped();
+    drop(engine);
+    Ok((stopped, first, second))
 }
 
 #[test]
@@ -291,17 +309,36 @@ fn fill(alloc: Global, engine: &mut Engine<MemStation>, out: &mut FrameBuf) -> (
     (600, false)
 }
 
+/// What an engine comes to that was filled: how many bulletins it took, and whether it was full then; what stopped it, and how
+/// many calls were made.
+type Filled = (u32, bool, Option<Device>, u64);
+
+/// Fills a new engine.
+fn filled(alloc: Global) -> Result<Filled, Fail> {
+    let mut out = FrameBuf::new(alloc)?;
+    let mut engine = small_engine(alloc, 1, &[])?;
+    let (accepted, full) = fill(alloc, &mut engine, &mut out);
+    let stopped = engine.stopped();
+    Ok((accepted, full, stopped, calls_in(engine)))
+}
+
 #[test]
 fn what_was_gathered_is_settled_where_the_journal_is_full(rt: HostRuntime) -> Result<(), Fail> {
-    let alloc = rt.alloc();
-    let mut out = FrameBuf::new(alloc)?;
-    let mut engine = begun(alloc, 1, &[])?;
-    let (accepted, full) = fill(alloc, &mut engine, &mut out);
+    let (accepted, full, stopped, calls) = filled(rt.alloc())?;
     assert!(rt; full && accepted > 100 && accepted < 256);
-    assert!(rt; engine.stopped().is_none());
-    let station = station_in(engine);
-    assert!(rt; station.calls() == OPENING + GATE + u64::from(accepted));
+    assert!(rt; stopped.is_none());
+    assert!(rt; calls == OPENING + GATE + u64::from(accepted));
     Ok(())
+}
+
+/// What comes of gathering these events, and how many calls were made then.
+fn calls_of(
+    alloc: Global,
+    repeat: u32,
+    events: &[Event],
+) -> Result<(Result<(), SwitchFault>, u64), Fail> {
+    let (engine, result) = gathered(alloc, repeat, &[], events)?;
+    Ok((result, calls_in(engine)))
 }
 
 #[test]
@@ -314,14 +351,8 @@ fn as_many_draws_are_gathered_as_are_repeated(rt: HostRuntime) -> Result<(), Fai
         Event::Take,
         Event::Take,
     ];
-    let (engine, result) = gathered(rt.alloc(), 2, &[], &events)?;
-    assert!(rt; result == Ok(()));
-    let station = station_in(engine);
-    assert!(rt; station.calls() == OPENING + GATE + 5);
-    let (engine, result) = gathered(rt.alloc(), 3, &[], &events)?;
-    assert!(rt; result == Ok(()));
-    let station = station_in(engine);
-    assert!(rt; station.calls() == OPENING);
+    assert!(rt; calls_of(rt.alloc(), 2, &events)? == (Ok(()), OPENING + GATE + 5));
+    assert!(rt; calls_of(rt.alloc(), 3, &events)? == (Ok(()), OPENING));
     Ok(())
 }
 
@@ -338,21 +369,21 @@ fn the_event_of_a_call_whose_disk_fails_has_not_come(rt: HostRuntime) -> Result<
     Ok(())
 }
 
-/// An engine that gathered a bulletin and so many losses behind it.
-fn with_losses(alloc: Global, losses: u32) -> Result<MemStation, Fail> {
+/// How many calls an engine makes that gathered a bulletin and so many losses behind it.
+fn calls_with_losses(alloc: Global, losses: u32) -> Result<u64, Fail> {
     let mut out = FrameBuf::new(alloc)?;
-    let mut engine = begun(alloc, 1, &[])?;
+    let mut engine = small_engine(alloc, 1, &[])?;
     let _ = gather(alloc, &mut engine, &mut out, Event::Hear(1));
     for _ in 0..losses {
         let _ = gather(alloc, &mut engine, &mut out, Event::Lose);
     }
-    Ok(station_in(engine))
+    Ok(calls_in(engine))
 }
 
 #[test]
 fn so_many_pieces_are_held_and_no_more(rt: HostRuntime) -> Result<(), Fail> {
     let alloc = rt.alloc();
-    assert!(rt; with_losses(alloc, 255)?.calls() == OPENING);
-    assert!(rt; with_losses(alloc, 256)?.calls() == OPENING + GATE + 257);
+    assert!(rt; calls_with_losses(alloc, 255)? == OPENING);
+    assert!(rt; calls_with_losses(alloc, 256)? == OPENING + GATE + 257);
     Ok(())
 }

@@ -117,9 +117,12 @@ fn a_journal_of_two_records_has_these_bytes(rt: HostRuntime) -> Result<(), Fail>
 /// How many calls are made until the listed one fails, none where no call does.
 fn calls_until(alloc: Global, call: u64) -> Result<Option<u64>, Fail> {
     let mut station = MemStation::new(alloc, &[call])?;
-    match two_records(alloc, &mut station) {
+    let records = two_records(alloc, &mut station);
+    let calls = station.calls();
+    drop(station);
+    match records {
         Some(_) => Ok(None),
-        None => Ok(Some(station.calls())),
+        None => Ok(Some(calls)),
     }
 }
 
@@ -167,6 +170,7 @@ fn leaves_either(
     for choice in CHOICES {
         let mut left = crashed(station, call, choice)?;
         let found = read(alloc, &mut left);
+        drop(left);
         if found != Ok(before) && found != Ok(before.saturating_add(1)) {
             return Ok(false);
         }

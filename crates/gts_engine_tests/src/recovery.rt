@@ -45,7 +45,10 @@ fn opened<P: Station>(
 {
     station.write_at(JournalFile::FIRST, 0, file)?;
     let (core, journal) = open_core(alloc, station, directory)?;
-    Ok((journal.used(), core.accepted()))
+    let found = (journal.used(), core.accepted());
+    drop(core);
+    drop(journal);
+    Ok(found)
 }
 
 /// The same in a station that has nothing.
@@ -55,7 +58,10 @@ fn opened_of(alloc: Global, file: &[u8]) -> Result<Result<(u64, u64), OpenFault>
     }
     let directory = two_circuits(alloc)?;
     let mut station = MemStation::new(alloc, &[])?;
-    Ok(opened(alloc, &mut station, &directory, file))
+    let found = opened(alloc, &mut station, &directory, file);
+    drop(station);
+    drop(directory);
+    Ok(found)
 }
 
 #[test]

@@ -1,9 +1,6 @@
 -- What is among numbers.
-use Rattle.std.proofs.Common.{◌≡◌, ◌≢◌, ℕ, zero, suc, ◌<◌, ◌≤◌, true, false, List, [], ◌∷◌, length, get_or, Ok, Err, Result, is_ok, refl, sym, arith}
-use Rattle.std.specs.Result.{MatchResult}
-use Rattle.std.proofs.lemmas.Bool.{eq-eqb, ne_eqb, cases_lt}
+use Rattle.gts_event.proofs.Cited.{◌≡◌, ◌≢◌, ℕ, zero, suc, ◌<◌, ◌≤◌, true, false, List, [], ◌∷◌, length, get_or, Ok, Err, Result, is_ok, refl, sym, arith, MatchResult, eq-eqb, ne_eqb, cases_lt, common_steps}
 use Rattle.gts_event.specs.State.{has}
-use Rattle.std.proofs.lemmas.Grind.{common_steps}
 
 pub has_at : (xs : List ℕ) (i n : ℕ) → i < length xs → get_or xs i 0 ≡ n → has xs n ≡ true
 has_at [] i n low is = absurd (omega arith)

@@ -1,13 +1,8 @@
 -- What is known is a duplicate.
-use Rattle.std.proofs.Common.{◌≡◌, ℕ, zero, suc, Bool, true, false, cond, List, [], ◌∷◌, ◌++◌, length, reverse, find, Option, Some, None, is_some, Result, Ok, Err, refl, sym, ap, ◌∙◌, slice_get}
-use Rattle.gts_event.specs.Cited.{Accepted, Bulletin, Directory, Duplicate, Entry, HeadingFields, Heard, Kind, Knows, KnowsMessage, Message, MessageField, MessageParts, Outcome, Refused, State, WasRead, after, after_all, after_heard, answer_to, body_of, duplicate, heading_of, is_recent, named, outcome, request_at, text_of, verdict}
-use Rattle.std.proofs.lemmas.Bool.{true≢false, and_from}
-use Rattle.std.proofs.lemmas.List.{append_assoc, reverse-append}
+use Rattle.gts_event.proofs.Cited.{◌≡◌, ℕ, zero, suc, Bool, true, false, cond, List, [], ◌∷◌, ◌++◌, length, reverse, Option, Some, None, is_some, Result, Ok, Err, refl, sym, ap, ◌∙◌, slice_get, Accepted, Bulletin, Directory, Duplicate, Entry, HeadingFields, Heard, Kind, Knows, KnowsMessage, Message, MessageField, MessageParts, Outcome, Refused, State, WasRead, after, after_all, after_heard, answer_to, body_of, duplicate, heading_of, is_recent, named, outcome, request_at, text_of, verdict, true≢false, and_from, append_assoc, reverse-append, same_bytes, common_steps, arith}
+use Rattle.std.proofs.Common.{find}
 use Rattle.gts_event.proofs.BulletinLemmas.{was_read, body_at-read, heading-read}
 use Rattle.gts_event.proofs.GrowthLemmas.{history_goes_on}
-use Rattle.gts_frame.proofs.LawLemmas.{same_bytes}
-use Rattle.std.proofs.lemmas.Grind.{common_steps}
-use Rattle.std.proofs.Common.{arith}
 
 -- ---- a bulletin that is there is found
 

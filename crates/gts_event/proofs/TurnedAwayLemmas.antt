@@ -1,10 +1,7 @@
 -- What is turned away, and the lines of kept draws.
-use Rattle.std.proofs.Common.{◌≡◌, cond, ◌||◌, ℕ, ◌+◌, ◌<◌, ◌≤◌, Bool, true, false, ◌==◌, nat_le, nat_lt, List, [], ◌∷◌, length, Some, refl, ap, arith}
-use Rattle.gts_event.specs.Cited.{Accepted, Asked, Bulletin, Choice, CircuitState, Directory, Draw, Draws, Duplicate, Event, HasFrame, HeadingFields, Heard, IsHeld, IsTurnedAway, Kind, LineLost, Lost, Nothing, Nothing_waits, Outcome, Outside, Refused, Repeats, Resend, State, Taken, after, after_heard, after_take, choice, circuit_need, circuit_of_event, draws, enumerate_from, find, frame_of_draw, has, heading_of_message, is_kept, is_there, kept_on, no_heading, on, on_circuit, outcome, receipt_text, spoken}
-use Rattle.std.proofs.lemmas.Bool.{leb-true, ltb-true, eq-eqb, cases_lt, and_parts, or_left, or_right}
+use Rattle.gts_event.proofs.Cited.{◌≡◌, cond, ◌||◌, ℕ, ◌+◌, ◌<◌, ◌≤◌, Bool, true, false, ◌==◌, nat_le, nat_lt, List, [], ◌∷◌, length, Some, refl, ap, arith, Accepted, Asked, Bulletin, Choice, CircuitState, Directory, Draw, Draws, Duplicate, Event, HasFrame, HeadingFields, Heard, IsHeld, IsTurnedAway, Kind, LineLost, Lost, Nothing, Nothing_waits, Outcome, Outside, Refused, Repeats, Resend, State, Taken, after, after_heard, after_take, choice, circuit_need, circuit_of_event, draws, enumerate_from, find, frame_of_draw, has, heading_of_message, is_kept, is_there, kept_on, no_heading, on, on_circuit, outcome, receipt_text, spoken, leb-true, ltb-true, eq-eqb, cases_lt, and_parts, or_left, or_right, common_steps}
 use Rattle.gts_event.proofs.OrderLemmas.{list_all-has}
 use Rattle.gts_event.proofs.LeftLemmas.{kept_positions, length-kept}
-use Rattle.std.proofs.lemmas.Grind.{common_steps}
 
 -- ---- what is turned away
 

@@ -1,12 +1,6 @@
 -- The recent bulletins, when one more is accepted.
-use Rattle.std.proofs.Common.{◌≡◌, ℕ, zero, suc, ◌+◌, ◌-◌, ◌≤◌, min, Bool, true, nat_le, cond, List, [], ◌∷◌, ◌++◌, length, map, filter, drop, refl, sym, ap, ◌∙◌, arith}
-use Rattle.gts_event.specs.Cited.{Bulletin, Directory, State, positions_of, range_with_len, recent, recent_among, recent_positions}
-use Rattle.std.proofs.lemmas.List.{drop-append-le, drop-map, length-map, length-append, map-append}
-use Rattle.std.proofs.lemmas.List.FromFn.{length-range_with_len}
-use Rattle.std.proofs.lemmas.List.Elements.{filter-append}
-use Rattle.std.proofs.lemmas.Bool.{cases_lt, le-leb, leb-true}
+use Rattle.gts_event.proofs.Cited.{◌≡◌, ℕ, zero, suc, ◌+◌, ◌-◌, ◌≤◌, min, Bool, true, nat_le, cond, List, [], ◌∷◌, ◌++◌, length, map, filter, drop, refl, sym, ap, ◌∙◌, arith, Bulletin, Directory, State, positions_of, range_with_len, recent, recent_among, recent_positions, drop-append-le, drop-map, length-map, length-append, map-append, length-range_with_len, filter-append, cases_lt, le-leb, leb-true, common_steps}
 use Rattle.gts_event.proofs.ListLemmas.{filter_first}
-use Rattle.std.proofs.lemmas.Grind.{common_steps}
 
 all_still : (w count a n : ℕ) (bs : List Bulletin) → positions_of bs ≡ range_with_len a n → count + 1 ≤ a + w → filter (λ (b : Bulletin). nat_le (count + 1) (b.position + w)) bs ≡ bs
 all_still w count a n [] e high = refl

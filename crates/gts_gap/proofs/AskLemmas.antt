@@ -1,12 +1,6 @@
 -- The text of a request, and how it is read.
-use Rattle.std.proofs.Common.{◌≡◌, ℕ, zero, suc, ◌<◌, ◌≤◌, ◌^◌, inl, inr, Bool, true, false, ◌&&◌, ◌||◌, ◌==◌, nat_le, List, [], ◌∷◌, ◌++◌, length, take, drop, map, Ok, Err, Some, None, refl, sym, ap, subst, ◌∙◌, append_assoc, if◌then◌else◌, arith, take_while, codes, Result}
-use Rattle.gts_gap.specs.Cited.{AllByRecursion, Cccc, EOL, IsDigits, Item, MessageField, Number, Numbers, RequestField, Run, Sqn, are_capitals, ask_text, behind_asker, bytes_from, capitals_at, count_at, dec, is_ascii_digit, item_text, items_at, items_of, items_text, list_all, more_text, numbers_at, numbers_of, request_at, run_at, text_of}
-use Rattle.gts_request.specs.Request.{◌>>=◌, number_at}
-use Rattle.std.proofs.lemmas.Bool.{eqb-true, eq-eqb, le-leb, and_parts}
-use Rattle.std.proofs.lemmas.List.{append-nil, length-append, take_at, drop_at}
-use Rattle.gts_alphabet.proofs.LawLemmas.{length-dec, digits_value-dec, AllDigits-dec, test_from_AllDigits}
-use Rattle.std.proofs.lemmas.List.Sums.{take_while-cons}
-use Rattle.std.proofs.lemmas.Grind.{common_steps}
+use Rattle.gts_gap.proofs.Cited.{◌≡◌, ℕ, zero, suc, ◌<◌, ◌≤◌, ◌^◌, inl, inr, Bool, true, false, ◌&&◌, ◌||◌, ◌==◌, nat_le, List, [], ◌∷◌, ◌++◌, length, take, drop, map, Ok, Err, Some, None, refl, sym, ap, subst, ◌∙◌, append_assoc, if◌then◌else◌, arith, take_while, codes, Result, AllByRecursion, Cccc, EOL, IsDigits, Item, MessageField, Number, Numbers, RequestField, Run, Sqn, are_capitals, ask_text, behind_asker, bytes_from, capitals_at, count_at, dec, is_ascii_digit, item_text, items_at, items_of, items_text, list_all, more_text, numbers_at, request_at, run_at, text_of, ◌>>=◌, number_at, eqb-true, eq-eqb, le-leb, and_parts, append-nil, length-append, take_at, drop_at, length-dec, digits_value-dec, AllDigits-dec, test_from_AllDigits, take_while-cons, common_steps}
+use Rattle.gts_gap.specs.Cited.{numbers_of}
 
 -- runs as they are given
 abbrev pub triples : ℕ → List Run → List (ℕ × ℕ × ℕ)

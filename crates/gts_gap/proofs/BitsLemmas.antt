@@ -1,10 +1,5 @@
 -- Bits in words, as a list.
-use Rattle.std.proofs.Common.{◌≡◌, ◌≢◌, ℕ, ◌*◌, ◌/◌, ◌%◌, ◌^◌, ◌<◌, ◌⊎◌, ◌==◌, Bool, true, false, List, length, set, get_or, bit_and, bit_or, inl, inr, sym, ap, ◌∙◌, arith}
-use Rattle.gts_gap.specs.Cited.{bit_at, bit_not, bits_in, is_set, w64}
-use Rattle.std.proofs.lemmas.Bool.{cases_eq, eq-eqb}
-use Rattle.std.proofs.lemmas.Nat.Bits.{bit_at_set_same, bit_at_set_other, bit_at_clear_same, bit_at_clear_other}
-use Rattle.std.proofs.lemmas.List.{length-set, get_or-set_same, get_or-set_other, ext_get_or}
-use Rattle.std.proofs.lemmas.List.FromFn.{length-map-range_with_len, get_or-map-range_with_len}
+use Rattle.gts_gap.proofs.Cited.{◌≡◌, ◌≢◌, ℕ, ◌*◌, ◌/◌, ◌%◌, ◌^◌, ◌<◌, ◌⊎◌, ◌==◌, Bool, true, false, List, length, set, get_or, bit_and, bit_or, inl, inr, sym, ap, ◌∙◌, arith, bit_at, bit_not, bits_in, is_set, w64, cases_eq, eq-eqb, bit_at_set_same, bit_at_set_other, bit_at_clear_same, bit_at_clear_other, length-set, get_or-set_same, get_or-set_other, ext_get_or, length-map-range_with_len, get_or-map-range_with_len}
 
 pub bits-long : (ws : List ℕ) → length (bits_in ws) ≡ 64 * length ws
 bits-long ws = length-map-range_with_len (is_set ws) 0 (64 * length ws)

@@ -1,14 +1,5 @@
 -- Numbers that are added, as the bytes of a connection come.
-use Rattle.std.proofs.Common.{◌≡◌, ℕ, ◌<◌, List, [], ◌++◌, length, get_or, set, map, Result, Ok, Err, refl, sym, ap, subst, ◌∙◌, append_assoc}
-use Rattle.std.proofs.lemmas.Grind.{flat_map-append}
-use Rattle.std.proofs.lemmas.List.{append-nil, length-set, length-map}
-use Rattle.gts_gap.specs.Cited.{Adds, Bad, CaptureFault, CompactHead, Decoding, DoesAll, DoesStep, Drain, DrainHead, Event, Feed, FeedHead, Feeds, FeedsAll, FrameStep, Held, IsFed, Numbered, ReadsOn, Reopen, ReopenHead, RestartHead, Rings, SourceFault, StandsAt, Take, TakeHead, events_added, events_of_signs, fresh, held_in, number_of_event, signs_of_step}
-use Rattle.gts_gap.specs.Counting.{numbers_of}
-use Rattle.gts_connection.proofs.LawLemmas.{added-twice, added-signs}
-use Rattle.gts_replay.proofs.StepLemmas.{takes_none}
-use Rattle.gts_replay.proofs.DecoderLemmas.{decode_at, decode_set, decode_reopened}
-use Rattle.std.proofs.lemmas.Grind.{common_steps}
-use Rattle.std.proofs.Common.{arith}
+use Rattle.gts_gap.proofs.Cited.{◌≡◌, ℕ, ◌<◌, List, [], ◌++◌, length, get_or, set, map, Result, Ok, Err, refl, sym, ap, subst, ◌∙◌, append_assoc, flat_map-append, append-nil, length-set, length-map, Adds, Bad, CaptureFault, CompactHead, Decoding, DoesAll, DoesStep, Drain, DrainHead, Event, Feed, FeedHead, Feeds, FeedsAll, FrameStep, Held, IsFed, Numbered, ReadsOn, Reopen, ReopenHead, RestartHead, Rings, SourceFault, StandsAt, Take, TakeHead, events_added, events_of_signs, fresh, held_in, number_of_event, signs_of_step, numbers_of, added-twice, added-signs, takes_none, decode_at, decode_set, decode_reopened, common_steps, arith}
 
 -- ---- what is added
 

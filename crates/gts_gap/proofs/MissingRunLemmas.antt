@@ -1,14 +1,5 @@
 -- Steps of a capture, one after another, and the numbers that they add.
-use Rattle.std.proofs.Common.{◌≡◌, ℕ, ◌+◌, ◌-◌, ◌^◌, ◌≤◌, List, [], ◌∷◌, ◌++◌, length, refl, sym, ap, subst, ◌∙◌, arith}
-use Rattle.gts_gap.specs.Cited.{AreSteps, CompactHead, Connections, Decode, Decoding, Directory, DoesAll, DrainHead, EndHead, EndsInStep, FeedHead, Held, IsBadAt, IsCutAt, IsHead, IsNew, IsRead, IsReadTo, IsStepOf, Journaled, LONGEST_CAPTURE, ReopenHead, RestartHead, Rings, StandFor, Step, TakeHead, after_step, at_start, bytes_announced, bytes_of_step, connections_after, events_with, flat_map, head_text, no_bytes, number_of_event, numbers, numbers_from, readable_from}
-use Rattle.gts_connection.specs.Capture.{Head, head_of}
-use Rattle.std.proofs.lemmas.List.{append-nil}
-use Rattle.gts_connection.proofs.LawLemmas.{connections_go_on}
-use Rattle.gts_replay.proofs.LawLemmas.{begins, one_step, at_end, at_bad}
-use Rattle.gts_replay.proofs.RunLemmas.{ReadsHead, head_here}
-use Rattle.gts_replay.proofs.FollowLemmas.{cut_in}
-use Rattle.gts_replay.proofs.EndLemmas.{two_each}
-use Rattle.std.proofs.lemmas.Grind.{common_steps}
+use Rattle.gts_gap.proofs.Cited.{◌≡◌, ℕ, ◌+◌, ◌-◌, ◌^◌, ◌≤◌, List, [], ◌∷◌, ◌++◌, length, refl, sym, ap, subst, ◌∙◌, arith, AreSteps, CompactHead, Connections, Decode, Decoding, Directory, DoesAll, DrainHead, EndHead, EndsInStep, FeedHead, Held, IsBadAt, IsCutAt, IsHead, IsNew, IsRead, IsReadTo, IsStepOf, Journaled, LONGEST_CAPTURE, ReopenHead, RestartHead, Rings, StandFor, Step, TakeHead, after_step, at_start, bytes_announced, bytes_of_step, connections_after, events_with, flat_map, head_text, no_bytes, number_of_event, numbers, numbers_from, readable_from, Head, head_of, append-nil, connections_go_on, begins, one_step, at_end, at_bad, ReadsHead, head_here, cut_in, two_each, common_steps}
 
 -- These steps were done: the table stands for their numbers, the decoders have what came on their connections, and the reader
 -- stands behind them.

@@ -1,15 +1,6 @@
 -- What is said of missing numbers, piece by piece.
-use Rattle.std.proofs.Common.{◌≡◌, ℕ, zero, suc, ◌+◌, ◌<◌, List, [], ◌∷◌, ◌++◌, length, map, get_or, Some, Result, Ok, Err, inl, inr, refl, sym, ap, subst, ◌∙◌, arith, append_assoc, codes, slice_get, IsErrAnd}
-use Rattle.std.proofs.lemmas.Result.{err_from_is_err_and}
-use Rattle.std.proofs.lemmas.Bool.{cases_lt}
-use Rattle.std.proofs.lemmas.List.{append-nil, length-append}
-use Rattle.gts_gap.specs.Cited.{An, Call, Circuit, Directory, EOL, Failed, Moment, Numbered, Outside, Run, SOH, SaysFront, SaysOnly, Tells, ask_frame, ask_heading, asked, dec, frame, gap_lines, heading_text, item_text, message_end, message_of, on, peer_of, run_lines, said_from, said_of, text_of}
-use Rattle.gts_gap.specs.Saying.{front_text}
-use Rattle.gts_alphabet.proofs.LawLemmas.{length-dec}
-use Rattle.gts_traits.proofs.OutsideLemmas.{on-append}
-use Rattle.gts_traits.proofs.SayLemmas.{said_more, front_behind, front_more}
+use Rattle.gts_gap.proofs.Cited.{◌≡◌, ℕ, zero, suc, ◌+◌, ◌<◌, List, [], ◌∷◌, ◌++◌, length, map, get_or, Some, Result, Ok, Err, inl, inr, refl, sym, ap, subst, ◌∙◌, arith, append_assoc, codes, slice_get, IsErrAnd, err_from_is_err_and, cases_lt, append-nil, length-append, An, Call, Circuit, Directory, EOL, Failed, Moment, Numbered, Outside, Run, SOH, SaysFront, SaysOnly, Tells, ask_frame, ask_heading, asked, dec, frame, gap_lines, heading_text, item_text, message_end, message_of, on, peer_of, run_lines, said_from, said_of, text_of, front_text, length-dec, on-append, said_more, front_behind, front_more, common_steps}
 use Rattle.gts_gap.proofs.AskLemmas.{triples, one-line}
-use Rattle.std.proofs.lemmas.Grind.{common_steps}
 
 -- ---- pieces
 

@@ -1,11 +1,5 @@
 -- Bytes that a text doesn't have.
-use Rattle.std.proofs.Common.{◌≡◌, ℕ, zero, suc, ◌+◌, ◌/◌, ◌%◌, ◌<◌, ◌≤◌, Bool, true, false, cond, not, ◌&&◌, ◌||◌, ◌==◌, List, [], ◌∷◌, ◌++◌, Option, Some, None, refl, ◌∙◌, arith, decimal, count_by}
-use Rattle.gts_generate.specs.Cited.{HeadingFields, IsHeading, are_capitals, dec, digit_glyph, digits_onto, group_text, heading_text, is_ascii_uppercase, is_group, list_all}
-use Rattle.std.specs.Fmt.{digits}
-use Rattle.std.proofs.lemmas.Bool.{eqb-true, leb-true, ne_eqb, and_parts, and_from, or_cases}
-use Rattle.std.proofs.lemmas.List.Folds.{list_all-append}
-use Rattle.std.proofs.lemmas.List.Sums.{sum_by-cons}
-use Rattle.std.proofs.lemmas.Grind.{common_steps}
+use Rattle.gts_generate.proofs.Cited.{◌≡◌, ℕ, zero, suc, ◌+◌, ◌/◌, ◌%◌, ◌<◌, ◌≤◌, Bool, true, false, cond, not, ◌&&◌, ◌||◌, ◌==◌, List, [], ◌∷◌, ◌++◌, Option, Some, None, refl, ◌∙◌, arith, decimal, count_by, HeadingFields, IsHeading, are_capitals, dec, digit_glyph, digits_onto, group_text, heading_text, is_ascii_uppercase, is_group, list_all, digits, eqb-true, leb-true, ne_eqb, and_parts, and_from, or_cases, list_all-append, sum_by-cons, common_steps}
 
 -- a byte stands nowhere in a text
 abbrev pub lacks : ℕ → List ℕ → Bool

@@ -1,8 +1,5 @@
 -- The rows of the directory, one behind another, and the directory that they are.
-use Rattle.std.proofs.Common.{◌≡◌, ℕ, zero, suc, ◌+◌, ◌%◌, ◌<◌, bit_or, List, [], ◌∷◌, ◌++◌, map, refl, sym, ◌∙◌, ap, subst, arith, ◌^◌, Result, Ok, Err, codes, replicate}
-use Rattle.gts_generate.specs.Cited.{CircuitRow, DirFault, Directory, Rows, RuleRow, checked, circuit_row, dec, directory, level_rows, localhost, no_rows, range_with_len, rows, rule_row}
-use Rattle.std.proofs.lemmas.List.FromFn.{map-range_with_len_more}
-use Rattle.std.proofs.lemmas.Grind.{common_steps}
+use Rattle.gts_generate.proofs.Cited.{◌≡◌, ℕ, zero, suc, ◌+◌, ◌%◌, ◌<◌, bit_or, List, [], ◌∷◌, ◌++◌, map, refl, sym, ◌∙◌, ap, subst, arith, ◌^◌, Result, Ok, Err, codes, replicate, CircuitRow, DirFault, Directory, Rows, RuleRow, checked, circuit_row, dec, directory, level_rows, localhost, no_rows, range_with_len, rows, rule_row, map-range_with_len_more, common_steps}
 
 -- one row of many behind others
 row-more : {A : Type 0} (f : ℕ → A) (front : List A) (j : ℕ) (row : A) → row ≡ f j

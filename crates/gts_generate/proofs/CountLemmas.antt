@@ -1,13 +1,7 @@
 -- What was accepted and drawn, event by event.
-use Rattle.std.proofs.Common.{◌≡◌, ℕ, ◌+◌, ◌<◌, ◌≤◌, Bool, true, false, cond, Option, Some, None, Result, Ok, Err, List, [], ◌∷◌, length, get_or, map, refl, arith, count_by, sum, zip}
-use Rattle.gts_generate.specs.Cited.{Accepted, Asked, Bulletin, Choice, Circuit, CircuitNeed, CircuitState, Directory, Done, Doubt, Draw, Draws, Duplicate, Entry, Event, Heard, Idle, IsOrdered, Item, Kind, LineLost, Lost, Message, MessageField, MessageParts, Nothing, Nothing_waits, Outcome, Refused, Repeats, RequestField, Resend, Restarted, State, Taken, Unsaid, after, after_all, after_entry, after_heard, after_take, all_owed_last, answer, answer_to, choice, circuit_need, draws, draws_in, enumerate_from, has, heading_of_message, idle, is_accepted, is_draw, keeps_one, named, need, on_circuit, outcome, outcome_of, outcomes, owed_again, owed_last, places, split_at, sum_by, verdict, with_repeated, with_routed}
-use Rattle.std.proofs.lemmas.Bool.{cases_lt}
-use Rattle.std.proofs.lemmas.List.{set_past, get_or_past, length-append}
-use Rattle.std.proofs.lemmas.List.Sums.{sum_by-append, sum_by-cons, sum_by-set}
-use Rattle.std.proofs.Math.ListN.{set}
-use Rattle.gts_event.proofs.LawLemmas.{nothing_there, ordered-all}
+use Rattle.gts_generate.proofs.Cited.{◌≡◌, ℕ, ◌+◌, ◌<◌, ◌≤◌, Bool, true, false, cond, Option, Some, None, Result, Ok, Err, List, [], ◌∷◌, length, get_or, map, refl, arith, count_by, sum, Accepted, Asked, Bulletin, Choice, Circuit, CircuitNeed, CircuitState, Directory, Done, Doubt, Draw, Draws, Duplicate, Entry, Event, Heard, Idle, IsOrdered, Item, Kind, LineLost, Lost, Message, MessageField, MessageParts, Nothing, Nothing_waits, Outcome, Refused, Repeats, RequestField, Resend, Restarted, State, Taken, Unsaid, after, after_all, after_entry, after_heard, after_take, all_owed_last, answer, answer_to, choice, circuit_need, draws, draws_in, enumerate_from, has, heading_of_message, idle, is_accepted, is_draw, keeps_one, named, need, on_circuit, outcome, outcome_of, outcomes, owed_again, owed_last, places, split_at, sum_by, verdict, with_repeated, with_routed, cases_lt, set_past, get_or_past, length-append, sum_by-append, sum_by-cons, sum_by-set, set, nothing_there, ordered-all, common_steps}
+use Rattle.std.proofs.Common.{zip}
 use Rattle.gts_generate.proofs.ReceiptLemmas.{take_outcome}
-use Rattle.std.proofs.lemmas.Grind.{common_steps}
 
 -- ---- accepted
 

@@ -1,13 +1,9 @@
 -- The counts of a day.
-use Rattle.std.proofs.Common.{◌≡◌, ℕ, ◌+◌, ◌-◌, true, refl, arith}
-use Rattle.gts_generate.specs.Cited.{IsHeld, IsOrdered, Traffic, directory, draws_in, frames_in, frames_said, history, is_accepted, is_draw, is_here, is_resend, list_all, need, nothing, outcomes_on, outside_of, range_with_len, start, state_after, steps}
-use Rattle.gts_event.proofs.LawLemmas.{ordered-begun, nothing-sound, held-begun}
-use Rattle.gts_connection.proofs.LawLemmas.{entries_here}
+use Rattle.gts_generate.proofs.Cited.{◌≡◌, ℕ, ◌+◌, ◌-◌, true, refl, arith, IsHeld, IsOrdered, Traffic, directory, draws_in, frames_in, frames_said, history, is_accepted, is_draw, is_here, is_resend, list_all, need, nothing, outcomes_on, outside_of, range_with_len, start, state_after, steps, ordered-begun, nothing-sound, held-begun, entries_here, common_steps}
 use Rattle.gts_generate.proofs.CountLemmas.{accepted-from-nothing, drawn-from-nothing}
 use Rattle.gts_generate.proofs.EndLemmas.{frames-counted}
 use Rattle.gts_generate.proofs.FedLemmas.{day-ends}
 use Rattle.gts_generate.proofs.LawLemmas.{are-steps}
-use Rattle.std.proofs.lemmas.Grind.{common_steps}
 
 ordered : IsOrdered directory start
 ordered = ordered-begun directory (nothing directory) (nothing-sound directory)

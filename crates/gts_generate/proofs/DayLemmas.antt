@@ -1,10 +1,5 @@
 -- Pieces of a capture, one behind another.
-use Rattle.std.proofs.Common.{◌≡◌, ℕ, suc, zero, ◌+◌, ◌-◌, ◌*◌, ◌<◌, List, [], ◌∷◌, ◌++◌, length, take, drop, min, map, refl, sym, ◌∙◌, ap, append_assoc, arith, codes, flat_map}
-use Rattle.std.proofs.lemmas.List.{append-nil, take-append-drop, take_at, length-append, length-take, length-drop}
-use Rattle.std.proofs.lemmas.List.FromFn.{map-range_with_len_more}
-use Rattle.std.proofs.lemmas.Grind.{flat_map-append}
-use Rattle.gts_generate.specs.Cited.{Drain, Step, capture, capture_from, dec, ending, pieces_from, pieces_left, range_with_len, step_text, steps_of, turn}
-use Rattle.std.proofs.lemmas.Grind.{common_steps}
+use Rattle.gts_generate.proofs.Cited.{◌≡◌, ℕ, suc, zero, ◌+◌, ◌-◌, ◌*◌, ◌<◌, List, [], ◌∷◌, ◌++◌, length, take, drop, min, map, refl, sym, ◌∙◌, ap, append_assoc, arith, codes, flat_map, append-nil, take-append-drop, take_at, length-append, length-take, length-drop, map-range_with_len_more, flat_map-append, Drain, Step, capture, capture_from, dec, ending, pieces_from, pieces_left, range_with_len, step_text, steps_of, turn, common_steps}
 
 -- one more circuit is drained
 pub drains-more : (c : ℕ) → flat_map step_text (map Drain (range_with_len 0 (c + 1)))

@@ -1,20 +1,9 @@
 -- Each take that gives something says one frame, where each bulletin has one end.
-use Rattle.std.proofs.Common.{◌≡◌, ℕ, suc, zero, ◌+◌, ◌<◌, ◌≤◌, Bool, true, false, cond, ◌==◌, nat_le, nat_lt, Option, Some, None, List, [], ◌∷◌, ◌++◌, length, get_or, map, inl, inr, refl, sym, ap, subst, ◌∙◌, arith, count_by}
-use Rattle.gts_generate.specs.Cited.{Accepted, Asked, Bulletin, Choice, Circuit, CircuitState, Directory, Done, Doubt, Draw, Draws, Duplicate, ETX, Entry, Event, HasFrame, Heard, Idle, IsGap, IsHeld, IsMessage, IsOrdered, Kind, LineLost, Lost, Nothing, Nothing_waits, Outcome, Refused, Repeats, Resend, Restarted, State, Taken, Unsaid, WasRead, after, after_entry, after_heard, after_take, bulletin_at, choice, choice_of, circuit_need, dec, digits_on, draws, find, frames_in, frames_said, idle, is_circuit, is_draw, is_here, is_kept, is_resend, keeps_one, kept_on, list_all, next, numbered_frame, on, on_circuit, outcome, outcome_of, outcomes, owes_kept, said, spoken, spoken_of, with_drawn, with_repeated, zip}
-use Rattle.gts_event.specs.Said.{frame_of_draw}
-use Rattle.gts_event.specs.History.{body_of}
-use Rattle.std.proofs.lemmas.Bool.{eqb-true, eq-eqb, le-leb, lt-ltb, ltb-true, and_parts, and_from}
-use Rattle.std.proofs.lemmas.List.{get_or-set_same, length-append, length-drop, length-map}
-use Rattle.std.proofs.lemmas.List.Folds.{list_all-append}
-use Rattle.std.proofs.lemmas.List.FromFn.{length-enumerate_from}
-use Rattle.std.proofs.lemmas.List.Sums.{sum_by-append}
-use Rattle.gts_message.proofs.LawLemmas.{split_takes}
-use Rattle.gts_event.proofs.LawLemmas.{was_read, body-read, held-all, draw_index, kept-frame_of_draw, keeps_get}
+use Rattle.gts_generate.proofs.Cited.{◌≡◌, ℕ, suc, zero, ◌+◌, ◌<◌, ◌≤◌, Bool, true, false, cond, ◌==◌, nat_le, nat_lt, Option, Some, None, List, [], ◌∷◌, ◌++◌, length, get_or, map, inl, inr, refl, sym, ap, subst, ◌∙◌, arith, count_by, Accepted, Asked, Bulletin, Choice, Circuit, CircuitState, Directory, Done, Doubt, Draw, Draws, Duplicate, ETX, Entry, Event, HasFrame, Heard, Idle, IsGap, IsHeld, IsMessage, IsOrdered, Kind, LineLost, Lost, Nothing, Nothing_waits, Outcome, Refused, Repeats, Resend, Restarted, State, Taken, Unsaid, WasRead, after, after_entry, after_heard, after_take, bulletin_at, choice, choice_of, circuit_need, dec, digits_on, draws, find, frames_in, frames_said, idle, is_circuit, is_draw, is_here, is_kept, is_resend, keeps_one, kept_on, list_all, next, numbered_frame, on, on_circuit, outcome, outcome_of, outcomes, owes_kept, said, spoken, spoken_of, with_drawn, with_repeated, zip, frame_of_draw, body_of, eqb-true, eq-eqb, le-leb, lt-ltb, ltb-true, and_parts, and_from, get_or-set_same, length-append, length-drop, length-map, list_all-append, length-enumerate_from, sum_by-append, split_takes, was_read, body-read, held-all, draw_index, kept-frame_of_draw, keeps_get, common_steps}
 use Rattle.gts_generate.proofs.ByteLemmas.{lacks, lacks-append, lacks-dec}
 use Rattle.gts_generate.proofs.ReceiptLemmas.{take_outcome, said_take}
 use Rattle.gts_generate.proofs.CountLemmas.{IsHeard, heard-event}
 use Rattle.gts_generate.proofs.FramesLemmas.{frames-append, frames-where, ends-append, ends-message, ends-frame}
-use Rattle.std.proofs.lemmas.Grind.{common_steps}
 
 -- a bulletin's body has one end
 abbrev pub one_end : Bulletin → Bool

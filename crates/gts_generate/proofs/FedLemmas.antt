@@ -1,17 +1,9 @@
 -- The messages of a day: each is heard as it stands, and has one end.
-use Rattle.std.proofs.Common.{◌≡◌, ◌≢◌, ℕ, suc, zero, ◌+◌, ◌-◌, ◌/◌, ◌%◌, ◌≤◌, Bool, true, false, ◌==◌, None, List, [], ◌∷◌, ◌++◌, length, drop, get_or, map, inl, inr, refl, sym, ap, subst, ◌∙◌, append_assoc, arith, codes, flat_map, replicate, if◌then◌else◌}
-use Rattle.gts_generate.specs.Cited.{AllByRecursion, An, Circuit, Compact, Connections, Directory, Drain, EOL, ETX, EndsWithEtx, Entry, Event, Feed, Frame, HeadingFields, IsFramed, IsPiece, KeepAlive, Part, Piece, Reopen, Rest, Restart, State, Step, Take, Taken, after_all, after_step, all_done, body, body_of, connection, dec, drains, entries, entries_from, entries_of_step, events_added, events_of, frame, frames_in, heading_at, heading_text, list_all, message, no_bytes, on_circuit, piece_text, range_with_len, report, request, steps, steps_of, waiting}
-use Rattle.std.proofs.Math.ListN.{set}
-use Rattle.std.proofs.lemmas.Bool.{eqb-true, eq-eqb, cases_lt, and_parts, and_from}
-use Rattle.std.proofs.lemmas.List.{append-nil, set_past, get_or-set_same, get_or-set_other}
-use Rattle.std.proofs.lemmas.List.Folds.{list_all-append}
-use Rattle.std.proofs.lemmas.Grind.{flat_map-append}
-use Rattle.gts_frame.proofs.LawLemmas.{IsFramed-message_of}
-use Rattle.gts_connection.proofs.LawLemmas.{connection-unique}
+use Rattle.gts_generate.proofs.Cited.{◌≡◌, ◌≢◌, ℕ, suc, zero, ◌+◌, ◌-◌, ◌/◌, ◌%◌, ◌≤◌, Bool, true, false, ◌==◌, None, List, [], ◌∷◌, ◌++◌, length, drop, get_or, map, inl, inr, refl, sym, ap, subst, ◌∙◌, append_assoc, arith, codes, flat_map, replicate, if◌then◌else◌, AllByRecursion, An, Circuit, Compact, Connections, Directory, Drain, EOL, ETX, EndsWithEtx, Entry, Event, Feed, Frame, HeadingFields, IsFramed, IsPiece, KeepAlive, Part, Piece, Reopen, Rest, Restart, State, Step, Take, Taken, after_all, after_step, all_done, body, connection, dec, drains, entries, entries_from, entries_of_step, events_added, events_of, frame, frames_in, heading_at, heading_text, list_all, message, no_bytes, on_circuit, piece_text, range_with_len, report, request, steps, steps_of, waiting, set, eqb-true, eq-eqb, cases_lt, and_parts, and_from, append-nil, set_past, get_or-set_same, get_or-set_other, list_all-append, flat_map-append, IsFramed-message_of, connection-unique, common_steps}
+use Rattle.gts_generate.specs.Cited.{body_of}
 use Rattle.gts_generate.proofs.ByteLemmas.{lacks, one_more, lacks-append, lacks-dec, lacks-heading_text}
 use Rattle.gts_generate.proofs.FramesLemmas.{ends-append, ends-message, no-end}
 use Rattle.gts_generate.proofs.EndLemmas.{hears_one_end, has_one_end}
-use Rattle.std.proofs.lemmas.Grind.{common_steps}
 
 -- ---- what comes on a connection
 

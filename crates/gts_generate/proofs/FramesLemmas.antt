@@ -1,11 +1,6 @@
 -- What was said on the circuits, piece by piece, and the frames in it.
-use Rattle.std.proofs.Common.{◌≡◌, ℕ, ◌+◌, Bool, true, false, cond, ◌==◌, List, [], ◌∷◌, ◌++◌, refl, ap, arith, if◌then◌else◌, length}
-use Rattle.std.proofs.lemmas.List.{map-append}
-use Rattle.std.proofs.lemmas.List.Elements.{filter-append}
-use Rattle.std.proofs.lemmas.List.Sums.{sum_by-append}
-use Rattle.gts_generate.specs.Cited.{An, Bi, ETX, Fx, Kind, Outside, dec, frame, frames_in, frames_said, is_circuit, letters, message_of, on}
+use Rattle.gts_generate.proofs.Cited.{◌≡◌, ℕ, ◌+◌, Bool, true, false, cond, ◌==◌, List, [], ◌∷◌, ◌++◌, refl, ap, arith, if◌then◌else◌, length, map-append, filter-append, sum_by-append, An, Bi, ETX, Fx, Kind, Outside, dec, frame, frames_in, frames_said, is_circuit, letters, message_of, on, common_steps}
 use Rattle.gts_generate.proofs.ByteLemmas.{lacks, lacks-dec, counts-none}
-use Rattle.std.proofs.lemmas.Grind.{common_steps}
 
 pub frames-append : (xs ys : Outside) → frames_said (xs ++ ys) ≡ frames_said xs ++ frames_said ys
 frames-append xs ys = grind (arith, common_steps, filter-append, map-append)

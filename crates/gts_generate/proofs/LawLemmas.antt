@@ -1,11 +1,7 @@
 -- The answers of the laws.
-use Rattle.std.proofs.Common.{◌≡◌, ℕ, ◌+◌, ◌*◌, ◌≤◌, List, [], ◌∷◌, ◌++◌, length, refl, sym, ap, ◌∙◌, arith, flat_map}
-use Rattle.gts_generate.specs.Cited.{An, AreStepsOf, CaptureKind, Compact, Connections, Directory, Drain, Entry, Feed, FeedHead, IsHeadOf, IsWhole, Journaled, LONGEST_CAPTURE, Reopen, Restart, State, Step, Take, Traffic, after_all, after_step, capture, compactions, compactions_from, count_at, dec, directory, drains, ending, entries_of_step, frame, head_of, head_text, message, no_bytes, range_with_len, step_text, steps, steps_of, turn}
-use Rattle.std.proofs.lemmas.List.{append-nil, length-append}
-use Rattle.std.proofs.lemmas.List.FromFn.{length-range_with_len}
+use Rattle.gts_generate.proofs.Cited.{◌≡◌, ℕ, ◌+◌, ◌*◌, ◌≤◌, List, [], ◌∷◌, ◌++◌, length, refl, sym, ap, ◌∙◌, arith, flat_map, An, AreStepsOf, CaptureKind, Compact, Connections, Directory, Drain, Entry, Feed, FeedHead, IsHeadOf, IsWhole, Journaled, LONGEST_CAPTURE, Reopen, Restart, State, Step, Take, Traffic, after_all, after_step, capture, compactions, compactions_from, count_at, dec, directory, drains, ending, entries_of_step, frame, head_of, head_text, message, no_bytes, range_with_len, step_text, steps, steps_of, turn, append-nil, length-append, length-range_with_len, common_steps}
 use Rattle.gts_generate.proofs.DayLemmas.{capture-pieces}
 use Rattle.gts_generate.proofs.FedLemmas.{day-body}
-use Rattle.std.proofs.lemmas.Grind.{common_steps}
 
 -- a frame can stand in a feed
 pub frame-size : (i : ℕ) → length (frame An (message i)) ≤ 999999

@@ -1,3 +1,4 @@
+mod Cited
 pub mod DayLemmas
 pub mod SaidLemmas
 pub mod SummaryLemmas

@@ -1,17 +1,9 @@
 -- Receipts are lines: each is counted where it begins with its word, and nowhere else.
-use Rattle.std.proofs.Common.{◌≡◌, ℕ, ◌+◌, Bool, true, false, cond, not, ◌==◌, List, [], ◌∷◌, ◌++◌, refl, sym, ap, subst, ◌∙◌, arith, codes, count_by}
-use Rattle.std.proofs.lemmas.Bool.{and_parts}
-use Rattle.std.proofs.lemmas.List.Sums.{sum_by-append}
-use Rattle.gts_generate.specs.Cited.{Accepted, Asked, Choice, Directory, Done, Doubt, Draw, Draws, Duplicate, Entry, Event, FrameField, HeadingFields, Heard, Idle, IsHeading, IsMessage, Kind, LineLost, Lost, Many, Message, Nothing, Nothing_waits, Outcome, Outside, Refusal, Refused, Repeats, Request, Resend, Restarted, State, Taken, Unsaid, WasRead, after, after_entry, channel_bytes, choice, heading_of_message, is_duplicate, is_granted, lines_from, lost_text, no_heading, on, outcome, outcome_of, outcomes, receipt_text, receipts_of, refusal_text, said, spoken, spoken_of, then_number}
-use Rattle.gts_event.specs.Said.{frame_of_draw}
-use Rattle.gts_message.proofs.LawLemmas.{split_takes}
-use Rattle.gts_traits.proofs.LawLemmas.{channel_bytes-append, channel_bytes-on, channel_bytes-on_other}
-use Rattle.gts_event.proofs.LawLemmas.{was_read, heading_of_message-read}
+use Rattle.gts_generate.proofs.Cited.{◌≡◌, ℕ, ◌+◌, Bool, true, false, cond, not, ◌==◌, List, [], ◌∷◌, ◌++◌, refl, sym, ap, subst, ◌∙◌, arith, codes, count_by, and_parts, sum_by-append, Accepted, Asked, Choice, Directory, Done, Doubt, Draw, Draws, Duplicate, Entry, Event, FrameField, HeadingFields, Heard, Idle, IsHeading, IsMessage, Kind, LineLost, Lost, Many, Message, Nothing, Nothing_waits, Outcome, Outside, Refusal, Refused, Repeats, Request, Resend, Restarted, State, Taken, Unsaid, WasRead, after, after_entry, channel_bytes, choice, heading_of_message, is_duplicate, is_granted, lines_from, lost_text, no_heading, on, outcome, outcome_of, outcomes, receipt_text, receipts_of, refusal_text, said, spoken, spoken_of, then_number, frame_of_draw, split_takes, channel_bytes-append, channel_bytes-on, channel_bytes-on_other, was_read, heading_of_message-read, common_steps}
 use Rattle.gts_heading.specs.declared.field.MessageField.TheVariants as field
 use Rattle.gts_request.specs.declared.fault.RequestField.TheVariants as asked
 use Rattle.gts_frame.specs.declared.lost.FrameField.TheVariants as lost
 use Rattle.gts_generate.proofs.ByteLemmas.{lacks, lacks-append, lacks-decimal, lacks-heading}
-use Rattle.std.proofs.lemmas.Grind.{common_steps}
 
 -- the rest of a line up to its LF
 passed : (b : Bool) (word bytes : List ℕ) → not b ≡ true → lines_from b word bytes ≡ lines_from false word bytes

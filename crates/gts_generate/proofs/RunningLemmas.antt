@@ -1,14 +1,12 @@
 -- What a run of the day's capture comes to, from how it ended.
-use Rattle.std.proofs.Common.{◌≡◌, ℕ, ◌≤◌, List, [], ◌∷◌, ◌++◌, length, Option, Some, None, Ok, IsTrue, refl, sym, ap, subst, ◌∙◌, arith, replicate}
-use Rattle.gts_generate.specs.Cited.{AllByRecursion, BeginsDay, Compact, Connections, Device, Did, Disk, Done, Doubt, Drain, EachOwedFew, EachRoutedOnce, EndHead, Ends, EndsDay, Engine, Entry, Event, Feed, Files, HasFailed, HasRead, HasSaid, Holds, IsCut, IsDone, IsFullOn, IsOrdered, IsStart, IsWhole, Journaled, Keeps, Need, Needs, ObservedOrigin, One, Outside, Reading, Reopen, ReplayEnd, Restart, Restarted, Say, SayMode, StandsFor, State, Station, StationInMemory, Step, StopsAtFault, Syncs, Take, Two, Unsaid, Version, after_all, after_step, all_done, begun, calls_on, capture, compacted_at, compactions, day_origin, day_summary, directory, draws_in, draws_of, empty, entries, entries_from, entries_of_step, events_added, file_opens, files_open, flat_map, full, head_text, history, is_sound, journal_text, need, need_of, new_journal, no_bytes, nothing, opened_of, opens, origin_behind, origin_of, outside_of, readable, restarted, said_by, seen, settled, shown, slice_index_or, start, state_after, state_at, step_text, steps, summary_lines, summary_text, switch_meanings, takes_of_drain, used_at}
+use Rattle.gts_generate.proofs.Cited.{◌≡◌, ℕ, ◌≤◌, List, [], ◌∷◌, ◌++◌, length, Option, Some, None, Ok, IsTrue, refl, sym, ap, subst, ◌∙◌, arith, replicate, AllByRecursion, BeginsDay, Compact, Connections, Device, Did, Disk, Done, Doubt, Drain, EachOwedFew, EachRoutedOnce, EndHead, Ends, EndsDay, Engine, Entry, Event, Feed, Files, HasFailed, HasRead, HasSaid, Holds, IsCut, IsDone, IsFullOn, IsOrdered, IsStart, IsWhole, Journaled, Keeps, Need, Needs, ObservedOrigin, One, Outside, Reading, Reopen, ReplayEnd, Restart, Restarted, Say, SayMode, StandsFor, State, Station, StationInMemory, Step, StopsAtFault, Syncs, Take, Two, Unsaid, Version, after_all, after_step, all_done, begun, calls_on, capture, compacted_at, compactions, day_origin, day_summary, directory, draws_in, draws_of, empty, entries, entries_from, entries_of_step, events_added, file_opens, files_open, full, head_text, history, is_sound, journal_text, need, need_of, new_journal, no_bytes, nothing, opened_of, opens, origin_behind, origin_of, outside_of, readable, restarted, said_by, seen, settled, shown, slice_index_or, start, state_after, state_at, step_text, steps, summary_lines, summary_text, switch_meanings, takes_of_drain, used_at, reads_once, whole_is_read, common_steps}
+use Rattle.gts_generate.specs.Cited.{flat_map}
 use Rattle.gts_directory.specs.Directory as directories
 use Rattle.gts_memory.specs.contracts.station.MemStationStation.TheImpl as in_memory
 use Rattle.gts_event.specs.declared.values.Need as values
 use Rattle.gts_event.specs.declared.fault.SwitchFault.TheVariants as switch
-use Rattle.gts_connection.proofs.LawLemmas.{reads_once, whole_is_read}
 use Rattle.gts_replay.specs.declared.end.ReplayEnd.TheVariants as end
 use Rattle.gts_generate.proofs.LawLemmas.{read-as-steps, never-compacts}
-use Rattle.std.proofs.lemmas.Grind.{common_steps}
 
 -- ---- the capture is read as its steps
 

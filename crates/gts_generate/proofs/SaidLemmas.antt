@@ -1,12 +1,6 @@
 -- What was said on the circuits, out of the sayings of a station.
-use Rattle.std.proofs.Common.{◌≡◌, ℕ, ◌+◌, ◌<◌, ◌≤◌, Bool, true, false, List, [], ◌∷◌, ◌++◌, length, take, get_or, refl, sym, ◌∙◌, ap, arith, flat_map, if◌then◌else◌, nat_lt, slice_get, Some}
-use Rattle.std.proofs.lemmas.Bool.{ltb-false, lt-leb}
-use Rattle.std.proofs.lemmas.List.{append-nil, take_more, take_all}
-use Rattle.std.proofs.lemmas.Grind.{flat_map-append}
-use Rattle.std.proofs.lemmas.Option.{slice_get_within, get_or_from_slice_get}
-use Rattle.gts_generate.specs.Cited.{Broken, CHANNELS, Call, Cuts, Did, Doing, Noted, Says, Syncs, Writes, calls_of, fits, frames_said, is_circuit, kept_call, on, said_by, saying_of, sayings, unchanged}
+use Rattle.gts_generate.proofs.Cited.{◌≡◌, ℕ, ◌+◌, ◌<◌, ◌≤◌, Bool, true, false, List, [], ◌∷◌, ◌++◌, length, take, get_or, refl, sym, ◌∙◌, ap, arith, flat_map, if◌then◌else◌, nat_lt, slice_get, Some, ltb-false, lt-leb, append-nil, take_more, take_all, flat_map-append, slice_get_within, get_or_from_slice_get, Broken, CHANNELS, Call, Cuts, Did, Doing, Noted, Says, Syncs, Writes, calls_of, fits, frames_said, is_circuit, kept_call, on, said_by, saying_of, sayings, unchanged, common_steps}
 use Rattle.gts_generate.proofs.FramesLemmas.{frames-append, frames-where}
-use Rattle.std.proofs.lemmas.Grind.{common_steps}
 
 -- what of a saying was said on a circuit
 abbrev pub on_circuit : ℕ × List ℕ → List ℕ

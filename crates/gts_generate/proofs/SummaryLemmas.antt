@@ -1,7 +1,5 @@
 -- Lines counted one byte after another.
-use Rattle.std.proofs.Common.{◌≡◌, ℕ, List, ◌++◌, ◌∙◌, ap, append_assoc}
-use Rattle.std.proofs.lemmas.Grind.{common_steps}
-use Rattle.std.proofs.Common.{arith}
+use Rattle.gts_generate.proofs.Cited.{◌≡◌, ℕ, List, ◌++◌, ◌∙◌, ap, append_assoc, common_steps, arith}
 
 -- a text that was written in two pieces behind a first one
 extended : (t₀ t y x t' : List ℕ) → t' ≡ t ++ x → t ≡ t₀ ++ y → t' ≡ t₀ ++ (y ++ x)

@@ -1,5 +1,7 @@
 //! Rows of a day in literal bytes, each the contract of a function with an empty body.
 
+#![tactic(auto, unfolding(gts_alphabet::specs::Digits::dec, gts_heading::specs::Heading::heading_text))]
+
 ghost use Rattle.std.specs.Prelude.{◌≡◌};
 ghost use Rattle.gts_generate.specs.Worked as rows;
 

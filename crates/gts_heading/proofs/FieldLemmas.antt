@@ -1,13 +1,5 @@
 -- One pair of laws for each field: what was read is spelled so, and what is spelled so is read.
-use Rattle.std.proofs.Common.{◌≡◌, ℕ, ◌<◌, ◌≤◌, ◌⊎◌, inl, inr, Bool, true, false, ◌&&◌, cond, eqb, leb, List, [], ◌∷◌, ◌++◌, length, take, drop, Option, Some, None, Result, Ok, Err, IsTrue, nat_eq, nat_le, refl, sym, ap, subst, ◌∙◌, append_assoc, arith}
-use Rattle.gts_heading.specs.Cited.{EOL, IsGap, MessageField, NoBlank, after_gap, after_word, are_capitals, bare_group_at, capitals_at, dec, digits_value, group_at, group_text, is_ascii_digit, is_bbb, is_group, letters_at, list_all, message_group_at, starts_with, two_digits_at}
-use Rattle.gts_heading.specs.Reading.{◌>>=◌}
-use Rattle.std.proofs.lemmas.Bool.{leb-true, le-leb, ne_eqb, and_parts}
-use Rattle.std.proofs.lemmas.Bool.Decides.{Decides-eqb}
-use Rattle.std.proofs.lemmas.List.{take_at, drop_at, take-append-drop, length-append, length-take-le}
-use Rattle.std.proofs.lemmas.Slice.Eq.{starts_is}
-use Rattle.gts_alphabet.proofs.LawLemmas.{length-dec, AllDigits-dec, digits_value-dec, dec-digits_value, AllDigits-from_test, test_from_AllDigits}
-use Rattle.std.proofs.lemmas.Grind.{common_steps}
+use Rattle.gts_heading.proofs.Cited.{◌≡◌, ℕ, ◌<◌, ◌≤◌, ◌⊎◌, inl, inr, Bool, true, false, ◌&&◌, cond, eqb, leb, List, [], ◌∷◌, ◌++◌, length, take, drop, Option, Some, None, Result, Ok, Err, IsTrue, nat_eq, nat_le, refl, sym, ap, subst, ◌∙◌, append_assoc, arith, EOL, IsGap, MessageField, NoBlank, after_gap, after_word, are_capitals, bare_group_at, capitals_at, dec, digits_value, group_at, group_text, is_ascii_digit, is_bbb, is_group, letters_at, list_all, message_group_at, starts_with, two_digits_at, ◌>>=◌, leb-true, le-leb, ne_eqb, and_parts, Decides-eqb, take_at, drop_at, take-append-drop, length-append, length-take-le, starts_is, length-dec, AllDigits-dec, digits_value-dec, dec-digits_value, AllDigits-from_test, test_from_AllDigits, common_steps}
 
 -- the value of a step that did not fail
 pub bind_ok : {A B : Type 0} (r : Result A MessageField) (f : A → Result B MessageField) (y : B) → (r >>= f) ≡ Ok y → (x : A) × (r ≡ Ok x) × (f x ≡ Ok y)

@@ -1,10 +1,6 @@
 -- Headings as a whole: what was read is spelled so, and what is spelled so is read.
-use Rattle.std.proofs.Common.{◌≡◌, ℕ, suc, ◌-◌, ◌<◌, ◌≤◌, List, [], ◌∷◌, ◌++◌, length, take, drop, Option, None, Result, Ok, Err, IsTrue, refl, sym, ap, subst, ◌∙◌, append_assoc, arith, IfOk, IsOkAnd}
-use Rattle.std.proofs.lemmas.List.{append-nil, drop_at, take-append-drop, append_cancel_right, length-append, length-drop}
-use Rattle.gts_heading.specs.Cited.{Aa, Cccc, Day, EOL, Heading, HeadingEnd, HeadingFields, Hour, Ii, IsGap, IsHeading, IsHeadingLine, MessageField, Minute, NoBlank, Reads, Tt, after_gap, after_word, bare_group_at, bare_heading_at, capitals_at, dec, fields_of, group_text, heading_at, heading_text, is_group, message_group_at, plain_heading_at, two_digits_at, with_group}
-use Rattle.gts_heading.specs.Reading.{◌>>=◌}
+use Rattle.gts_heading.proofs.Cited.{◌≡◌, ℕ, suc, ◌-◌, ◌<◌, ◌≤◌, List, [], ◌∷◌, ◌++◌, length, take, drop, Option, None, Result, Ok, Err, IsTrue, refl, sym, ap, subst, ◌∙◌, append_assoc, arith, IfOk, IsOkAnd, append-nil, drop_at, take-append-drop, append_cancel_right, length-append, length-drop, Aa, Cccc, Day, EOL, Heading, HeadingEnd, HeadingFields, Hour, Ii, IsGap, IsHeading, IsHeadingLine, MessageField, Minute, NoBlank, Reads, Tt, after_gap, after_word, bare_group_at, bare_heading_at, capitals_at, dec, fields_of, group_text, heading_at, heading_text, is_group, message_group_at, plain_heading_at, two_digits_at, with_group, ◌>>=◌, common_steps}
 use Rattle.gts_heading.proofs.FieldLemmas.{bind_ok, step_ok, and_part, ok_is, word_takes, capitals_take, capitals_again, digits_take, digits_again, bare_group_takes, bare_group_again, message_group_takes, message_group_again, gap_takes, gap_again}
-use Rattle.std.proofs.lemmas.Grind.{common_steps}
 
 -- ---- a heading without its group
 

@@ -1,6 +1,5 @@
 -- What the laws of src/laws.rt say, for the proofs of crates above: each is an answer of one of them.
-use Rattle.std.proofs.Common.{◌≡◌, ℕ, List, ◌++◌, Ok}
-use Rattle.gts_heading.specs.Cited.{EOL, HeadingFields, IsGap, IsHeading, bare_heading_at, heading_at, heading_text}
+use Rattle.gts_heading.proofs.Cited.{◌≡◌, ℕ, List, ◌++◌, Ok, EOL, HeadingFields, IsGap, IsHeading, bare_heading_at, heading_at, heading_text}
 use Rattle.gts_heading.proofs.HeadingLemmas.{bare_takes, line_takes}
 pub use Rattle.gts_heading.proofs.FieldLemmas.{word_takes, word_again, gap_takes, gap_again, and_part, chosen}
 pub use Rattle.gts_heading.proofs.HeadingLemmas.{bare_again, line_again, same_heading}

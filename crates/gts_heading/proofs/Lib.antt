@@ -1,3 +1,4 @@
+mod Cited
 mod FieldLemmas
 mod HeadingLemmas
 pub mod LawLemmas

@@ -1,8 +1,5 @@
 -- Two headings have the same fields exactly where they are written alike.
-use Rattle.std.proofs.Common.{◌≡◌, ℕ, Bool, true, false, ◌&&◌, nat_eq, List, Option, None, Some, refl, sym, ap, ◌∙◌}
-use Rattle.std.proofs.lemmas.Bool.{true≢false}
-use Rattle.std.proofs.lemmas.Bool.Decides.{Decides-eqb}
-use Rattle.gts_heading.specs.Cited.{Decides, HeadingFields, IsHeading, bytes_decides, heading_text, is_same_heading, option_eq, pointwise}
+use Rattle.gts_heading.proofs.Cited.{◌≡◌, ℕ, Bool, true, false, ◌&&◌, nat_eq, List, Option, None, Some, refl, sym, ap, ◌∙◌, true≢false, Decides-eqb, Decides, HeadingFields, IsHeading, bytes_decides, heading_text, is_same_heading, option_eq, pointwise}
 use Rattle.gts_heading.proofs.HeadingLemmas.{same_heading}
 
 -- field by field

@@ -1,12 +1,12 @@
 ghost use Rattle.std.specs.Prelude.{◌≡◌, ◌≤◌, length};
 ghost use Rattle.gts_heading.specs.MessageField.{field_text};
 
-use thiserror::Error;
+use std::error::Error;
+use std::fmt;
 
 /// The fields of a message from left to right, each with the rule that it can break (the Manual's message format; the
 /// blanks, the ranges and the limit are this project's profile).
-#[derive(Clone, Copy, Debug, PartialEq, Eq, Error)]
-#[error("a message is refused by its field {}", self.text())]
+#[derive(Clone, Copy, Debug, PartialEq, Eq)]
 pub enum MessageField {
     /// The message begins with SOH CR CR LF.
     StartLine,
@@ -62,3 +62,11 @@ impl MessageField {
         }
     }
 }
+
+impl fmt::Display for MessageField {
+    fn fmt<W: fmt::Write>(&self, f: &mut fmt::Formatter<W>) -> fmt::Result {
+        write!(f, "a message is refused by its field {}", self.text())
+    }
+}
+
+impl Error for MessageField {}

@@ -1,5 +1,7 @@
 //! Headings read byte for byte, each the contract of a function with an empty body.
 
+#![tactic(auto, unfolding(crate::specs::Reading::bare_group_at, crate::specs::Reading::bare_heading_at, crate::specs::Reading::heading_at, crate::specs::Reading::message_group_at, crate::specs::Reading::plain_heading_at))]
+
 ghost use Rattle.std.specs.Prelude.{◌≡◌, [], None, Some, Ok, Err, codes};
 ghost use Rattle.gts_heading.specs.Reading.{bare_heading_at, heading_at};
 ghost use Rattle.gts_heading.specs.Worked.{last_minute, worked_heading};

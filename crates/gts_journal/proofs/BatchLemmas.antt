@@ -1,15 +1,7 @@
 -- The steps of appending a batch.
-use Rattle.std.proofs.Common.{◌≡◌, ◌≢◌, ◌⊎◌, inl, true, false, ℕ, zero, suc, ◌+◌, ◌-◌, ◌<◌, ◌≤◌, cond, List, [], ◌∷◌, ◌++◌, length, take, drop, refl, sym, ◌∙◌, ap, subst, arith, append_assoc, length-append, nat_eq}
-use Rattle.gts_journal.specs.Cited.{Call, Did, EachSince, EndsAt, Gathered, Gathers, HasBlock, InHand, IsBlock, IsPossible, LeavesAllOrNone, OnlyTears, ReachesWithin, Record, StandsOn, Syncs, Version, Writes, beyond_block, chain_text, closed_gate, file_of, front_of, held, last_seal, open_gate, opened_part, overwritten, record_text, said_by, seal, sealed, seen, starts_with, texts_of}
-use borrow.Rule.Slice.PartMut.{put_mid, post_of}
-use Rattle.std.proofs.Math.ListN.{set}
-use Rattle.std.proofs.Math.Seq.{set-append_seam, take-add}
-use Rattle.std.proofs.lemmas.List.{append-nil, take_at, length-take, length-take-le, length-drop, map-append}
-use Rattle.gts_traits.proofs.LawLemmas.{weaker, joined, seen_written, seen_elsewhere}
-use Rattle.gts_record.proofs.LawLemmas.{chain_text-append, last_seal-append}
+use Rattle.gts_journal.proofs.Cited.{◌≡◌, ◌≢◌, ◌⊎◌, inl, true, false, ℕ, zero, suc, ◌+◌, ◌-◌, ◌<◌, ◌≤◌, cond, List, [], ◌∷◌, ◌++◌, length, take, drop, refl, sym, ◌∙◌, ap, subst, arith, append_assoc, length-append, nat_eq, Call, Did, EachSince, EndsAt, Gathered, Gathers, HasBlock, InHand, IsBlock, IsPossible, LeavesAllOrNone, OnlyTears, ReachesWithin, Record, StandsOn, Syncs, Version, Writes, beyond_block, chain_text, closed_gate, file_of, front_of, held, last_seal, open_gate, opened_part, overwritten, record_text, said_by, seal, sealed, seen, starts_with, texts_of, put_mid, post_of, set, set-append_seam, take-add, append-nil, take_at, length-take, length-take-le, length-drop, map-append, weaker, joined, seen_written, seen_elsewhere, chain_text-append, last_seal-append, common_steps}
 use Rattle.gts_journal.proofs.GateLemmas.{gate_at, Staged, torn_behind, written_is, torn_gate, written_gate}
 use Rattle.gts_journal.proofs.AppendLemmas.{kept_elsewhere, not_selector, synced_after}
-use Rattle.std.proofs.lemmas.Grind.{common_steps}
 
 -- a block without the closed gate at its end
 pub opened_is : (text : List ℕ) (block : IsBlock text) → opened_part text ≡ open_gate ∷ block.0

@@ -1,16 +1,10 @@
 -- What the files open to, before and after an append.
-use Rattle.std.proofs.Common.{◌≡◌, ◌⊎◌, inl, inr, ℕ, zero, suc, ◌+◌, ◌-◌, ◌^◌, ◌<◌, ◌≤◌, Bool, true, false, cond, List, [], ◌∷◌, ◌++◌, length, take, drop, Option, Some, None, Result, Ok, Err, refl, sym, ◌∙◌, ap, subst, arith, ◌==◌, nat_eq, nat_lt, not}
-use Rattle.gts_journal.specs.Cited.{AreAdmitted, AreNext, Call, Damaged, Directory, EachSince, EndsAt, Files, FitsRecord, Gathered, Gathers, HasAppended, HasAppendedBlock, HoldsState, InHand, IsBlock, IsClosed, IsImage, IsNext, IsSynced, LeavesAllOrNone, LeavesBoth, LeavesEither, MayStand, Need, NoJournal, NotThis, OldVersion, OnlySyncs, OpenFault, OpensAsBefore, OpensTo, OpensToEither, OpensToOneOf, Outside, Read, Record, Says, StandsFor, StandsOn, State, Syncs, Tries, Version, admits, after, after_records, agreeing, chain_text, checkpoint_opens, closed_gate, empty, entry_at, event_of_record, file_of, file_opens, files_read, first_seal, front_of, gate_after, header_fault, is_checkpoint, is_older, last_seal, magic, need, need_in, next_seal, no_records, open_gate, opened_of, opened_part, pointwise, record_size, record_text, records_at, restarted, said_by, seal, sealed, sealed_at, sealed_next, seen, selected, selecting, starts_with, texts_of, written}
-use Rattle.std.proofs.lemmas.Bool.{cases_eq}
-use Rattle.std.proofs.lemmas.List.{append-nil, append_assoc, length-append, take_at}
-use Rattle.gts_traits.proofs.LawLemmas.{weaker, started, synced, said_is, synced_image, sync_syncs, says_keeps}
-use Rattle.gts_record.proofs.LawLemmas.{length-sealed}
-use Rattle.gts_opening.proofs.LawLemmas.{far_enough, opens_same, opens_more, selected_few}
+use Rattle.gts_journal.proofs.Cited.{◌≡◌, ◌⊎◌, inl, inr, ℕ, zero, suc, ◌+◌, ◌-◌, ◌^◌, ◌<◌, ◌≤◌, Bool, true, false, cond, List, [], ◌∷◌, ◌++◌, length, take, drop, Option, Some, None, Result, Ok, Err, refl, sym, ◌∙◌, ap, subst, arith, ◌==◌, nat_eq, nat_lt, not, AreAdmitted, AreNext, Call, Damaged, Directory, EachSince, EndsAt, Files, FitsRecord, Gathered, Gathers, HasAppended, HasAppendedBlock, HoldsState, InHand, IsBlock, IsClosed, IsImage, IsNext, IsSynced, LeavesAllOrNone, LeavesBoth, LeavesEither, MayStand, Need, NoJournal, NotThis, OldVersion, OnlySyncs, OpenFault, OpensAsBefore, OpensTo, OpensToEither, OpensToOneOf, Outside, Read, Record, Says, StandsFor, StandsOn, State, Syncs, Tries, Version, admits, after, after_records, agreeing, chain_text, checkpoint_opens, closed_gate, empty, entry_at, event_of_record, file_of, file_opens, files_read, first_seal, front_of, gate_after, header_fault, is_checkpoint, is_older, last_seal, magic, need, need_in, next_seal, no_records, open_gate, opened_of, opened_part, pointwise, record_size, record_text, records_at, restarted, said_by, seal, sealed, sealed_at, sealed_next, seen, selected, selecting, starts_with, texts_of, written, cases_eq, append-nil, take_at, weaker, started, synced, said_is, synced_image, sync_syncs, says_keeps, length-sealed, far_enough, opens_same, opens_more, selected_few, common_steps}
+use Rattle.std.proofs.lemmas.List.{append_assoc, length-append}
 use Rattle.gts_journal.proofs.GateLemmas.{gate_at}
 pub use Rattle.gts_journal.proofs.AheadLemmas.{at_mark, at_found, few_bytes}
 use Rattle.gts_journal.proofs.OpensLemmas.{at_gate, at_record, if_admitted, open_is}
 pub use Rattle.gts_journal.proofs.OpeningLemmas.{agreeing-same, agreeing-other, agreeing-end}
-use Rattle.std.proofs.lemmas.Grind.{common_steps}
 
 -- ---- a batch
 

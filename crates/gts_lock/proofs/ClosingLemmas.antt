@@ -1,11 +1,5 @@
 -- What is found once a hall is closed.
-use Rattle.std.proofs.Common.{◌≡◌, ◌≢◌, ◌⊎◌, ℕ, ◌<◌, ◌≤◌, List, length, true, refl, sym, ap, ◌∙◌, subst, inl, inr, ⊎_elim, arith, Some, None, Option}
-use Rattle.std.proofs.lemmas.Option.{same_Some}
-use mathlib.Core.Option.{some, some-injective}
-use mathlib.Core.Logic.{dite}
-use native.Mathlib.Decide.{ℕ_discrete}
-use lib.ListN.{get_elem?}
-use Rattle.gts_lock.specs.Cited.{EndsWith, Final, Holding, Idle, InTurn, IsAmong, Live, MOST_TURNS, NoneHolds, Seen, Spent, Stage, State, View, Waiting, entries, entries_under, tickets, tickets_of}
+use Rattle.gts_lock.proofs.Cited.{◌≡◌, ◌≢◌, ◌⊎◌, ℕ, ◌<◌, ◌≤◌, List, length, true, refl, sym, ap, ◌∙◌, subst, inl, inr, ⊎_elim, arith, Some, None, Option, same_Some, some, some-injective, dite, ℕ_discrete, get_elem?, EndsWith, Final, Holding, Idle, InTurn, IsAmong, Live, MOST_TURNS, NoneHolds, Seen, Spent, Stage, State, View, Waiting, entries, entries_under, tickets, tickets_of}
 use Rattle.gts_lock.proofs.HistoryLemmas.{last_there, starts_empty}
 use Rattle.gts_lock.proofs.ViewsLemmas.{holds_not_idle, not_both, tickets_none}
 use Rattle.gts_lock.proofs.PartingLemmas.{seats_differ}

@@ -1,10 +1,5 @@
 -- When all passes are joined.
-use Rattle.std.proofs.Common.{◌≡◌, ℕ, zero, suc, ◌+◌, ◌-◌, List, [], ◌∷◌, ◌++◌, map, length, refl, sym, ap, ◌∙◌, subst, arith}
-use mathlib.Core.Option.{some, some-injective, some-ne-none}
-use mathlib.Core.List.{append-nil}
-use lib.ListN.{get_elem?}
-use Rattle.atomic_table.proofs.Lists.{at_map}
-use Rattle.gts_lock.specs.Passes.{Known, AllJoined}
+use Rattle.gts_lock.proofs.Cited.{◌≡◌, ℕ, zero, suc, ◌+◌, ◌-◌, List, [], ◌∷◌, ◌++◌, map, length, refl, sym, ap, ◌∙◌, subst, arith, some, some-injective, some-ne-none, append-nil, get_elem?, at_map, Known, AllJoined}
 use Rattle.gts_lock.proofs.HistoryLemmas.{there}
 
 pub in_middle : {A : Type 0} (xs : List A) (x : A) (rest all : List A) → xs ++ x ∷ rest ≡ all → get_elem? all (length xs) ≡ some x

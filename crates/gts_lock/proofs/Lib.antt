@@ -1,3 +1,4 @@
+mod Cited
 pub mod HistoryLemmas
 pub mod ViewsLemmas
 pub mod StepsLemmas

@@ -1,8 +1,5 @@
 -- The rule, for two views at once.
-use Rattle.std.proofs.Common.{◌≡◌, ℕ, List, sym, ap, ◌∙◌, subst, inr, ⊎_elim, Option}
-use mathlib.Core.Option.{some}
-use lib.ListN.{get_elem?}
-use Rattle.gts_lock.specs.Cited.{Common, FitsStage, HasTicket, Holding, InTurn, JoinedNamesDiffer, Live, NamesDiffer, OneHolds, Place, Stage, State, TicketsDiffer, View, Waiting, joined_as, sits}
+use Rattle.gts_lock.proofs.Cited.{◌≡◌, ℕ, List, sym, ap, ◌∙◌, subst, inr, ⊎_elim, Option, some, get_elem?, Common, FitsStage, HasTicket, Holding, InTurn, JoinedNamesDiffer, Live, NamesDiffer, OneHolds, Place, Stage, State, TicketsDiffer, View, Waiting, joined_as, sits}
 use Rattle.gts_lock.proofs.ViewsLemmas.{one_seat, not_both}
 
 abbrev rank_of : Place → ℕ

@@ -1,11 +1,5 @@
 -- A new hall meets the rule, and it is kept where a pass is split off or joined.
-use Rattle.std.proofs.Common.{◌≡◌, ◌≢◌, ◌⊎◌, ℕ, zero, suc, ◌+◌, ◌≤◌, List, [], ◌∷◌, ◌++◌, length, set, Bool, true, false, cond, ◌==◌, true≢false, refl, sym, ap, ◌∙◌, subst, inl, inr, ⊎_elim, arith, length-set, eq-eqb, ne_eqb, ◌||◌, Some, Option}
-use mathlib.Core.Option.{some, some-injective, some-ne-none}
-use mathlib.Core.Logic.{dite}
-use native.Mathlib.Decide.{ℕ_discrete}
-use lib.ListN.{get_elem?}
-use Rattle.gts_lock.specs.Cited.{Common, Fits, FitsJoined, FitsStage, Holding, Idle, InTurn, IsAmong, Joins, Live, Me, Place, Spent, Splits, Stage, StartsWith, State, View, Waiting, copy, joined_as, joining, longer, newcomer, opening, part, parting, sits, spent, tickets}
-use Rattle.atomic_table.proofs.Lists.{set_else, set_again, at_last}
+use Rattle.gts_lock.proofs.Cited.{◌≡◌, ◌≢◌, ◌⊎◌, ℕ, zero, suc, ◌+◌, ◌≤◌, List, [], ◌∷◌, ◌++◌, length, set, Bool, true, false, cond, ◌==◌, true≢false, refl, sym, ap, ◌∙◌, subst, inl, inr, ⊎_elim, arith, length-set, eq-eqb, ne_eqb, ◌||◌, Some, Option, some, some-injective, some-ne-none, dite, ℕ_discrete, get_elem?, Common, Fits, FitsJoined, FitsStage, Holding, Idle, InTurn, IsAmong, Joins, Live, Me, Place, Spent, Splits, Stage, StartsWith, State, View, Waiting, copy, joined_as, joining, longer, newcomer, opening, part, parting, sits, spent, tickets, set_else, set_again, at_last}
 use Rattle.gts_lock.proofs.HistoryLemmas.{set_there, at_push, under_none, starts_same, starts_longer, starts_shorter, both_start, shorter_length, longer_first, longer_second, among_push, among_pushed}
 use Rattle.gts_lock.proofs.ViewsLemmas.{holds_not_idle, one_seat, not_both, tickets_set, tickets_push, each_set, named_set, none_set, some_set, none_push, some_push, named_push}
 

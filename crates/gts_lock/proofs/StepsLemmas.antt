@@ -1,13 +1,5 @@
 -- The steps of a turn keep the rule: a ticket is drawn, its turn is looked for and taken, and the next ticket is served.
-use Rattle.std.proofs.Common.{◌≡◌, ◌≢◌, ℕ, ◌+◌, ◌%◌, ◌<◌, ◌≤◌, List, [], ◌∷◌, ◌++◌, length, set, get_or, eqb, Bool, true, cond, ◌==◌, refl, sym, ap, ◌∙◌, subst, inl, inr, ⊎_elim, arith, length-append, eq-eqb, ne_eqb, Some, Option}
-use mathlib.Core.Option.{none, some, some-injective, some-ne-none}
-use mathlib.Core.Logic.{dite}
-use native.Mathlib.Decide.{ℕ_discrete}
-use lib.ListN.{get_elem?}
-use lib.Seq.{set-get_or}
-use prog.Atomic.{either}
-use Rattle.gts_lock.specs.Cited.{Allows, Common, Compares, Draws, Fits, FitsStage, Holding, Idle, InTurn, IsAmong, Live, Looks, MOST_TURNS, Me, NoneHolds, Raises, RaisesSome, SomeHolds, Spent, Stage, State, View, Waiting, ended, entries, entries_under, gives, holding, keeps, marked, staged, step, stepped, takes, tickets}
-use Rattle.atomic_table.proofs.Lists.{at_set, set_again}
+use Rattle.gts_lock.proofs.Cited.{◌≡◌, ◌≢◌, ℕ, ◌+◌, ◌%◌, ◌<◌, ◌≤◌, List, [], ◌∷◌, ◌++◌, length, set, get_or, eqb, Bool, true, cond, ◌==◌, refl, sym, ap, ◌∙◌, subst, inl, inr, ⊎_elim, arith, length-append, eq-eqb, ne_eqb, Some, Option, none, some, some-injective, some-ne-none, dite, ℕ_discrete, get_elem?, set-get_or, either, Allows, Common, Compares, Draws, Fits, FitsStage, Holding, Idle, InTurn, IsAmong, Live, Looks, MOST_TURNS, Me, NoneHolds, Raises, RaisesSome, SomeHolds, Spent, Stage, State, View, Waiting, ended, entries, entries_under, gives, holding, keeps, marked, staged, step, stepped, takes, tickets, at_set, set_again}
 use Rattle.gts_lock.proofs.HistoryLemmas.{set_there, at_push, entries_push, under_same, under_other, starts_push, starts_same, starts_is, starts_between, ends_push}
 use Rattle.gts_lock.proofs.ViewsLemmas.{ticket_or, holds_not_idle, holds_not_waiting, one_seat, not_both, tickets_set, each_set, named_set, none_set, some_set}
 

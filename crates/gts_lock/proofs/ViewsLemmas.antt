@@ -1,11 +1,5 @@
 -- Lemmas on the views of all passes.
-use Rattle.std.proofs.Common.{◌≡◌, ◌≢◌, ℕ, zero, suc, ◌+◌, List, [], ◌∷◌, ◌++◌, set, refl, sym, ap, ◌∙◌, subst, ⊎_elim, arith, Some}
-use mathlib.Core.Option.{some, some-injective, some-ne-none}
-use mathlib.Core.Logic.{dite}
-use native.Mathlib.Decide.{ℕ_discrete}
-use lib.ListN.{get_elem?}
-use Rattle.atomic_table.proofs.Lists.{at_set, set_else, at_longer}
-use Rattle.gts_lock.specs.Cited.{Holding, Idle, IsNamed, IsRestingAt, Live, NoneHolds, Place, SomeHolds, Spent, Stage, TableId, View, Waiting, hall_of, joined_as, sits, tickets, tickets_of}
+use Rattle.gts_lock.proofs.Cited.{◌≡◌, ◌≢◌, ℕ, zero, suc, ◌+◌, List, [], ◌∷◌, ◌++◌, set, refl, sym, ap, ◌∙◌, subst, ⊎_elim, arith, Some, some, some-injective, some-ne-none, dite, ℕ_discrete, get_elem?, at_set, set_else, at_longer, Holding, Idle, IsNamed, IsRestingAt, Live, NoneHolds, Place, SomeHolds, Spent, Stage, TableId, View, Waiting, hall_of, joined_as, sits, tickets, tickets_of}
 use Rattle.gts_lock.proofs.HistoryLemmas.{set_there, at_push}
 
 abbrev pub ticket_or : ℕ → Stage → ℕ

@@ -1,7 +1,5 @@
 -- Whether the place at the stable end of a file is touched.
-use Rattle.std.proofs.Common.{◌≡◌, ℕ, ◌+◌, Bool, true, false, ◌&&◌, ◌||◌, nat_le, nat_lt, cond, List, ◌∷◌, length, refl, ap, ◌∙◌, eq-eqb, arith}
-use Rattle.std.proofs.lemmas.Bool.Decides.{nat_tests}
-use Rattle.gts_memory.specs.Cited.{Broken, Call, Did, Writes, fits, kept_call, seen, stable, touched, touches}
+use Rattle.gts_memory.proofs.Cited.{◌≡◌, ℕ, ◌+◌, Bool, true, false, ◌&&◌, ◌||◌, nat_le, nat_lt, cond, List, ◌∷◌, length, refl, ap, ◌∙◌, eq-eqb, arith, nat_tests, Broken, Call, Did, Writes, fits, kept_call, seen, stable, touched, touches}
 
 -- a write reaches the place at the stable end exactly where it ends behind it
 at_end : (at count end : ℕ) → ((nat_le at end && nat_lt end (at + count)) || (nat_lt end (at + count) && nat_le end end)) ≡ nat_lt end (at + count)

@@ -1,5 +1,7 @@
 //! Messages taken apart byte for byte, each the contract of a function with an empty body.
 
+#![tactic(auto, unfolding(crate::specs::Message::split_at, crate::specs::Message::body_at, crate::specs::Message::number_at, crate::specs::Message::text_at, gts_heading::specs::Reading::heading_at, gts_heading::specs::Reading::plain_heading_at, gts_heading::specs::Reading::message_group_at, gts_heading::specs::Reading::bare_group_at))]
+
 ghost use Rattle.std.specs.Prelude.{◌≡◌, ◌++◌, [], ◌∷◌, Ok, Err, codes};
 ghost use Rattle.gts_message.specs.Cited.{EOL, ETX, SOH, message_end, message_of, split_at};
 ghost use Rattle.gts_message.specs.Worked.{grouped_parts, plain_heading, plain_parts, ten_binary_bytes, worked_message};

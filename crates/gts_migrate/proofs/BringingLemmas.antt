@@ -1,16 +1,6 @@
 -- What is needed of each circuit under a directory that takes over, by the circuit's number.
-use Rattle.std.proofs.Common.{◌≡◌, ℕ, zero, suc, ◌+◌, ◌-◌, ◌<◌, ◌≤◌, Bool, true, false, not, cond, ◌==◌, nat_lt, List, [], ◌∷◌, length, map, get_or, take, drop, zip, ◌++◌, slice_get, Some, Result, Ok, Err, refl, sym, ap, ◌∙◌, arith, IfOk}
-use Rattle.gts_migrate.specs.Cited.{Circuit, CircuitNeed, CircuitState, Directory, Need, begun_circuit, brought, circuit_need, circuit_need_of, circuits_under, each_brought, each_let_go, emptied, enumerate_from, has, is_circuit_sound, is_sound, last_of, list_all, unused}
-use Rattle.std.proofs.lemmas.Bool.{and_parts, lt-ltb}
-use Rattle.std.proofs.lemmas.List.Folds.{list_all_more}
-use Rattle.std.proofs.lemmas.Option.{slice_get-get_or}
-use Rattle.std.proofs.lemmas.List.{map-append}
-use Rattle.std.proofs.lemmas.Grind.{take_at_read}
-use Rattle.std.proofs.lemmas.List.FromFn.{length-enumerate_from}
+use Rattle.gts_migrate.proofs.Cited.{◌≡◌, ℕ, zero, suc, ◌+◌, ◌-◌, ◌<◌, ◌≤◌, Bool, true, false, not, cond, ◌==◌, nat_lt, List, [], ◌∷◌, length, map, get_or, take, drop, zip, ◌++◌, slice_get, Some, Result, Ok, Err, refl, sym, ap, ◌∙◌, arith, IfOk, Circuit, CircuitNeed, CircuitState, Directory, Need, begun_circuit, brought, circuit_need, circuit_need_of, circuits_under, each_brought, each_let_go, emptied, enumerate_from, has, is_circuit_sound, is_sound, last_of, list_all, unused, and_parts, lt-ltb, list_all_more, slice_get-get_or, map-append, take_at_read, length-enumerate_from, circuit-parts, sound-parts, filter_whole, common_steps}
 use Rattle.gts_event.specs.declared.values.CircuitNeed as values_circuit
-use Rattle.gts_event.proofs.LawLemmas.{circuit-parts, sound-parts}
-use Rattle.gts_core.proofs.LawLemmas.{filter_whole}
-use Rattle.std.proofs.lemmas.Grind.{common_steps}
 
 -- ---- lists
 

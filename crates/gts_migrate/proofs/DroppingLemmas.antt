@@ -1,18 +1,8 @@
 -- What is dropped has its receipts: bulletins and what waits ascend together, and each position that waits has its bulletin.
-use Rattle.std.proofs.Common.{◌≡◌, ◌⊎◌, inl, inr, ℕ, zero, suc, ◌+◌, ◌<◌, ◌≤◌, Bool, true, false, cond, ◌||◌, ◌==◌, nat_lt, zip, List, [], ◌∷◌, ◌++◌, length, map, get_or, take, drop, slice_get, Some, is_ok, refl, sym, ap, ap₂, ◌∙◌, arith}
-use Rattle.gts_migrate.specs.Cited.{Bulletin, CanDrop, Circuit, CircuitNeed, CircuitState, Climbs, Directory, Dropped, IsNonDecreasing, IsStart, Need, Refused, State, Waiting, all_owed_last, ascends, body_at, bulletin_of, circuit_need, circuit_need_of, circuit_needs, dropped_text, flat_map, has, have_bodies, heading_among, heading_of, is_bulletin, is_circuit_sound, is_there, list_all, need, need_of, on, positions_of, receipt_among, receipts_from, receipts_on, receipts_under, restarted, sayings, unused, waiting_at}
-use Rattle.std.proofs.lemmas.Bool.{and_parts, and_from, ltb-true, lt-ltb, eqb-true, eq-eqb, ne_eqb}
-use Rattle.std.proofs.lemmas.List.Sorted.{IsNonDecreasingBy-from_default}
-use Rattle.std.proofs.lemmas.List.Concat.{flat_map-cons}
-use Rattle.std.proofs.lemmas.List.Folds.{list_all-append}
-use Rattle.std.proofs.lemmas.List.{append-nil, append_assoc, map-append}
-use Rattle.std.proofs.lemmas.Grind.{flat_map-append, take_at_read}
+use Rattle.gts_migrate.proofs.Cited.{◌≡◌, ◌⊎◌, inl, inr, ℕ, zero, suc, ◌+◌, ◌<◌, ◌≤◌, Bool, true, false, cond, ◌||◌, ◌==◌, nat_lt, zip, List, [], ◌∷◌, ◌++◌, length, map, get_or, take, drop, slice_get, Some, is_ok, refl, sym, ap, ap₂, ◌∙◌, arith, Bulletin, CanDrop, Circuit, CircuitNeed, CircuitState, Climbs, Directory, Dropped, IsNonDecreasing, IsStart, Need, Refused, State, Waiting, all_owed_last, ascends, body_at, bulletin_of, circuit_need, circuit_need_of, circuit_needs, dropped_text, flat_map, has, have_bodies, heading_among, heading_of, is_bulletin, is_circuit_sound, is_there, list_all, need, need_of, on, positions_of, receipt_among, receipts_from, receipts_on, receipts_under, restarted, sayings, unused, waiting_at, and_parts, and_from, ltb-true, lt-ltb, eqb-true, eq-eqb, ne_eqb, IsNonDecreasingBy-from_default, flat_map-cons, list_all-append, append-nil, append_assoc, map-append, flat_map-append, take_at_read, sound-parts, circuit-parts, bulletin-parts, not_above, over-restarted, common_steps}
 use Rattle.gts_event.specs.declared.values.CircuitNeed as circuit_values
 use Rattle.gts_event.specs.declared.values.Need as need_values
 use Rattle.gts_event.specs.declared.values.Bulletin as values
-use Rattle.gts_event.proofs.LawLemmas.{sound-parts, circuit-parts, bulletin-parts, not_above}
-use Rattle.gts_recovery.proofs.LawLemmas.{over-restarted}
-use Rattle.std.proofs.lemmas.Grind.{common_steps}
 
 -- ---- numbers that ascend
 

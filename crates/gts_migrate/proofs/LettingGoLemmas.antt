@@ -1,14 +1,7 @@
 -- What is let go under a directory in which circuits are closed: the state stays one that a history can have.
-use Rattle.std.proofs.Common.{◌≡◌, ℕ, zero, suc, ◌+◌, ◌<◌, Bool, true, false, cond, ◌&&◌, ◌==◌, nat_lt, List, [], ◌∷◌, length, map, get_or, drop, zip, slice_get, None, Some, refl, sym, ap, ◌∙◌, arith}
-use Rattle.gts_migrate.specs.Cited.{BeginWith, Circuit, CircuitNeed, CircuitState, Directory, HeldCircuit, IsHeld, IsOrdered, KeepsPlace, Need, State, TakesOver, are_below, begun_circuit, brought, circuit_need, circuit_need_of, due, each_brought, each_let_go, emptied, first_waiting, goes_on, goes_over, idle, is_sound, left_behind, let_go, list_all, need, need_of, owes_kept, restarted, sum_by, unused, waiting, waiting_closed, waits_closed}
-use Rattle.std.proofs.lemmas.Bool.{and_parts, lt-ltb, and_from}
-use Rattle.std.proofs.lemmas.List.Sums.{sum_by-cons}
+use Rattle.gts_migrate.proofs.Cited.{◌≡◌, ℕ, zero, suc, ◌+◌, ◌<◌, Bool, true, false, cond, ◌&&◌, ◌==◌, nat_lt, List, [], ◌∷◌, length, map, get_or, drop, zip, slice_get, None, Some, refl, sym, ap, ◌∙◌, arith, BeginWith, Circuit, CircuitNeed, CircuitState, Directory, HeldCircuit, IsHeld, IsOrdered, KeepsPlace, Need, State, TakesOver, are_below, begun_circuit, brought, circuit_need, circuit_need_of, due, each_brought, each_let_go, emptied, first_waiting, goes_on, goes_over, idle, is_sound, left_behind, let_go, list_all, need, need_of, owes_kept, restarted, sum_by, unused, waiting, waiting_closed, waits_closed, and_parts, lt-ltb, and_from, sum_by-cons, sound-parts, sound-held, waiting-left, held-over, over-restarted, all_pass, common_steps}
 use Rattle.gts_event.specs.declared.values.CircuitNeed as values
 use Rattle.gts_event.specs.declared.values.Need as need_values
-use Rattle.gts_event.proofs.LawLemmas.{sound-parts, sound-held, waiting-left}
-use Rattle.gts_recovery.proofs.LawLemmas.{held-over, over-restarted}
-use Rattle.gts_core.proofs.LawLemmas.{all_pass}
-use Rattle.std.proofs.lemmas.Grind.{common_steps}
 
 -- ---- the state
 

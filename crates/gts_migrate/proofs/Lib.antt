@@ -1,3 +1,4 @@
+mod Cited
 mod LettingGoLemmas
 mod BringingLemmas
 mod MigratingLemmas

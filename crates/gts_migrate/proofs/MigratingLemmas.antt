@@ -1,17 +1,7 @@
 -- A journal is taken over: what a crash leaves meanwhile, and what the files open to then.
-use Rattle.std.proofs.Common.{◌≡◌, ◌≢◌, inl, inr, ℕ, ◌+◌, ◌-◌, ◌*◌, ◌^◌, ◌<◌, ◌≤◌, true, false, List, [], ◌∷◌, ◌++◌, length, take, drop, Option, None, Result, Ok, Err, refl, sym, ap, subst, ◌∙◌, arith, take-append-drop, OnOk, IfErr, IsErrOf}
-use Rattle.std.proofs.lemmas.Bool.{cases_eq}
-use Rattle.std.proofs.Math.Nat.{add-mul}
-use Rattle.std.proofs.lemmas.List.{append-nil, map-append}
-use Rattle.gts_migrate.specs.Cited.{AnswersOpening, AnswersWaiting, Call, CanMigrate, Core, CountsFaults, Did, Directory, DiskFault, Dropped, EachSince, Files, FitsFor, Full, GivesRoomFor, HasFewDue, HasWritten, InHand, IsBrought, IsClosedAt, IsFront, IsImage, IsMigrated, IsOpenedAny, IsSynced, IsWriteFaultOf, LeavesBoth, LeavesFiles, LeavesOthers, MigrateFault, Need, Needs, NoMemory, OnlySyncs, Open, OpenFault, Opened, OpensWith, Outside, Refused, SayFault, SaysAll, SaysFor, StandsForAny, StandsOn, State, StationMeanings, Syncs, TakesOver, Version, Waiting, Waits, WorksBeside, WriteFault, begun, checkpoint_file, closed_gate, compacted_bytes, draw_size, due, files_open_any, files_open_in, full_compacted, goes_on, is_sound, keeps_one, need, on, opened_of, opened_on, opens, opens_any, opens_in, restarted, said_by, seal_size, seen, selected, selected_bytes, selecting as selecting_at, unowed, version_of, write_fault, written}
-use Rattle.gts_traits.proofs.LawLemmas.{weaker, started, joined, told, said_is, synced_image}
-use Rattle.gts_event.proofs.LawLemmas.{restarted-left, sound-held}
+use Rattle.gts_migrate.proofs.Cited.{◌≡◌, ◌≢◌, inl, inr, ℕ, ◌+◌, ◌-◌, ◌*◌, ◌^◌, ◌<◌, ◌≤◌, true, false, List, [], ◌∷◌, ◌++◌, length, take, drop, Option, None, Result, Ok, Err, refl, sym, ap, subst, ◌∙◌, arith, take-append-drop, OnOk, IfErr, IsErrOf, cases_eq, add-mul, append-nil, map-append, AnswersOpening, AnswersWaiting, Call, CanMigrate, Core, CountsFaults, Did, Directory, DiskFault, Dropped, EachSince, Files, FitsFor, Full, GivesRoomFor, HasFewDue, HasWritten, InHand, IsBrought, IsClosedAt, IsFront, IsImage, IsMigrated, IsOpenedAny, IsSynced, IsWriteFaultOf, LeavesBoth, LeavesFiles, LeavesOthers, MigrateFault, Need, Needs, NoMemory, OnlySyncs, Open, OpenFault, Opened, OpensWith, Outside, Refused, SayFault, SaysAll, SaysFor, StandsForAny, StandsOn, State, StationMeanings, Syncs, TakesOver, Version, Waiting, Waits, WorksBeside, WriteFault, begun, checkpoint_file, closed_gate, compacted_bytes, draw_size, due, files_open_any, files_open_in, full_compacted, goes_on, is_sound, keeps_one, need, on, opened_of, opened_on, opens, opens_any, opens_in, restarted, said_by, seal_size, seen, selected, selected_bytes, selecting as selecting_at, unowed, version_of, write_fault, written, weaker, started, joined, told, said_is, synced_image, restarted-left, sound-held, checkpoint_opened, room_for, due-left, restarted-unowed, selected_few, both_left, same_stands, still_stands, common_steps}
 use Rattle.gts_migrate.proofs.LettingGoLemmas.{held-on, sound-on, on-restarted}
-use Rattle.gts_opening.proofs.LawLemmas.{checkpoint_opened, room_for, due-left, restarted-unowed, selected_few}
-use Rattle.gts_journal.proofs.LawLemmas.{both_left, same_stands}
-use Rattle.gts_recovery.proofs.LawLemmas.{still_stands}
 use Rattle.gts_checkpoint.specs.declared.fault.WriteFault.TheVariants as writes
-use Rattle.std.proofs.lemmas.Grind.{common_steps}
 
 -- ---- what files open to
 

@@ -44,7 +44,9 @@ fn take_over<P: Station>(
     // A limit leaves few draws due.
     old.bounds_hold();
     let (core, journal) = open_core_any(alloc, station, old)?;
-    let prepared = prepare(alloc, &core, old, new, waiting)?;
+    let prepared = prepare(alloc, &core, old, new, waiting);
+    drop(core);
+    let prepared = prepared?;
     rewrite(alloc, station, journal, new, &prepared)
 }
 

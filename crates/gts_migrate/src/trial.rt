@@ -64,8 +64,14 @@ pub fn try_over<P: Station>(
 {
     // A limit leaves few draws due.
     old.bounds_hold();
-    let (core, _journal) = open_core_any(alloc, station, old)?;
-    let refusal = refusal_of(alloc, &core, old, new)?;
-    let need = core.need(alloc)?;
+    let (core, journal) = open_core_any(alloc, station, old)?;
+    drop(journal);
+    let Ok(refusal) = refusal_of(alloc, &core, old, new) else {
+        drop(core);
+        return Err(OpenFault::NoMemory);
+    };
+    let need = core.need(alloc);
+    drop(core);
+    let need = need?;
     Ok(Trial { need, refusal })
 }

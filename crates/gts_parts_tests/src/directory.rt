@@ -53,6 +53,25 @@ fn three_circuits(alloc: Global) -> Result<DirRows, Fail> {
     Ok(rows)
 }
 
+/// Adds a circuit, and a rule for it.
+fn grow(rows: &mut DirRows) -> Result<(), Fail> {
+    rows.add_circuit(circuit(b'D', *b"DDDD", 3))?;
+    rows.add_rule(RuleRow {
+        heading: *b"****** ****",
+        to: CircuitSet::NONE.with(3),
+    })?;
+    Ok(())
+}
+
+/// The directory of the three circuits, or of the four.
+fn directory(alloc: Global, grown: bool) -> Result<Directory, Fail> {
+    let mut rows = three_circuits(alloc)?;
+    if grown {
+        grow(&mut rows)?;
+    }
+    Ok(Directory::check(rows)?)
+}
+
 /// Which of three circuits a bulletin from a circuit goes to, and its level.
 fn routed(directory: &Directory, from: u32, text: &[u8]) -> Option<([bool; 3], u8)> {
     match Heading::read_bare(text) {
@@ -74,48 +93,48 @@ const ROUTES: [(u32, &[u8], [bool; 3], u8); 3] = [
 
 #[test]
 fn rules_name_circuits_and_level_rows_give_levels(rt: HostRuntime) -> Result<(), Fail> {
-    let directory = Directory::check(three_circuits(rt.alloc())?)?;
+    let directory = directory(rt.alloc(), false)?;
     for (from, text, named, level) in ROUTES {
-        assert_eq!(rt; routed(&directory, from, text), Some((named, level)));
+        assert!(rt; routed(&directory, from, text) == Some((named, level)));
     }
     Ok(())
 }
 
 #[test]
 fn a_directory_gives_its_rows(rt: HostRuntime) -> Result<(), Fail> {
-    let directory = Directory::check(three_circuits(rt.alloc())?)?;
-    assert_eq!(rt; directory.circuits(), 3);
+    let directory = directory(rt.alloc(), false)?;
+    assert!(rt; directory.circuits() == 3);
     assert!(rt; *directory.circuit(1) == circuit(b'B', *b"BBBB", 5));
-    assert_eq!(rt; directory.centre(), *b"TVSV");
-    assert_eq!(rt; directory.window(), 1000);
-    assert_eq!(rt; directory.limit(), 1 << 30);
-    assert_eq!(rt; directory.address().octets(), ADDRESS);
-    assert_eq!(rt; directory.mark(), [7; 32]);
+    assert!(rt; directory.centre() == *b"TVSV");
+    assert!(rt; directory.window() == 1000);
+    assert!(rt; directory.limit() == 1 << 30);
+    assert!(rt; directory.address().octets() == ADDRESS);
+    assert!(rt; directory.mark() == [7; 32]);
     Ok(())
 }
 
-/// The same with a circuit more, and a rule for it.
-fn grown(alloc: Global) -> Result<DirRows, Fail> {
-    let mut rows = three_circuits(alloc)?;
-    rows.add_circuit(circuit(b'D', *b"DDDD", 3))?;
-    rows.add_rule(RuleRow {
-        heading: *b"****** ****",
-        to: CircuitSet::NONE.with(3),
-    })?;
-    Ok(rows)
+/// What keeps one of the two directories from taking over from the other one.
+fn change(alloc: Global, grown: bool) -> Result<Option<Change>, Fail> {
+    let new = directory(alloc, grown)?;
+    let old = directory(alloc, !grown)?;
+    Ok(new.takes_over(&old).err())
+}
+
+/// The circuit that one of them lacks.
+const FOURTH: Change = Change {
+    part: Part::Circuit,
+    row: 3,
+};
+
+/// Whether a change is told in these words.
+fn is_told(alloc: Global, change: Change, words: &str) -> Result<bool, Fail> {
+    Ok(change.to_string(alloc)?.as_str() == words)
 }
 
 #[test]
 fn a_directory_takes_over_from_what_it_goes_on_from(rt: HostRuntime) -> Result<(), Fail> {
-    let old = Directory::check(three_circuits(rt.alloc())?)?;
-    let new = Directory::check(grown(rt.alloc())?)?;
-    assert_eq!(rt; new.takes_over(&old), Ok(()));
-    let change = Change {
-        part: Part::Circuit,
-        row: 3,
-    };
-    assert_eq!(rt; old.takes_over(&new), Err(change));
-    let said = change.to_string(rt.alloc())?;
-    assert_eq!(rt; said.as_str(), "changed in circuit row 3");
+    assert!(rt; change(rt.alloc(), true)?.is_none());
+    assert!(rt; change(rt.alloc(), false)? == Some(FOURTH));
+    assert!(rt; is_told(rt.alloc(), FOURTH, "changed in circuit row 3")?);
     Ok(())
 }

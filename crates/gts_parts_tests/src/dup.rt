@@ -11,16 +11,16 @@ const REPORT: [u8; 32] = [
 #[test]
 fn the_latest_position_of_a_digest_is_found(rt: HostRuntime) -> Result<(), Fail> {
     let mut table = DupTable::new(rt.alloc(), 2)?;
-    assert_eq!(rt; table.latest(&[7; 32], 10), None);
+    assert!(rt; table.latest(&[7; 32], 10) == None);
     table.reserve()?;
     table.put([7; 32], 0);
-    assert_eq!(rt; table.latest(&[7; 32], 10), Some(0));
+    assert!(rt; table.latest(&[7; 32], 10) == Some(0));
     Ok(())
 }
 
 #[test]
 fn a_digest_is_that_of_heading_and_text(rt: HostRuntime) {
     if let Ok((heading, _)) = Heading::read_bare(b"SMVG01 TVSV 280000") {
-        assert_eq!(rt; DupTable::digest(&heading, b"NIL="), REPORT);
+        assert!(rt; DupTable::digest(&heading, b"NIL=") == REPORT);
     }
 }

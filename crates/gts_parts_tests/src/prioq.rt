@@ -8,9 +8,9 @@ fn the_first_of_the_smallest_level_goes_next(rt: HostRuntime) -> Result<(), Fail
     queue.put(3, 0);
     queue.reserve(1)?;
     queue.put(1, 1);
-    assert_eq!(rt; queue.len(), 2);
-    assert_eq!(rt; queue.get(3, 0), Some(0));
-    assert_eq!(rt; queue.peek(), Some(1));
-    assert_eq!(rt; queue.pop(), Some(1));
+    assert!(rt; queue.len() == 2);
+    assert!(rt; queue.get(3, 0) == Some(0));
+    assert!(rt; queue.peek() == Some(1));
+    assert!(rt; queue.pop() == Some(1));
     Ok(())
 }

@@ -24,9 +24,9 @@ fn items_come_in_the_order_of_the_text(rt: HostRuntime) -> Result<(), Fail> {
         last: 1,
         digits: 3,
     };
-    assert_eq!(rt; items.next(), Some(number));
-    assert_eq!(rt; items.next(), Some(Item::Heading(HEADING)));
-    assert_eq!(rt; items.next(), None);
+    assert!(rt; items.next() == Some(number));
+    assert!(rt; items.next() == Some(Item::Heading(HEADING)));
+    assert!(rt; items.next() == None);
     Ok(())
 }
 
@@ -59,6 +59,6 @@ fn four_billion_numbers_are_counted(rt: HostRuntime) -> Result<(), Fail> {
     for item in Request::read(&text)?.items() {
         asked = asked.saturating_add(count(&item));
     }
-    assert_eq!(rt; asked, 4_166_100_001);
+    assert!(rt; asked == 4_166_100_001);
     Ok(())
 }

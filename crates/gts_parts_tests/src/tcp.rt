@@ -7,6 +7,20 @@ use std::test::Fail;
 use std::time::Clock;
 use std::{io, thread};
 
+// Sends bytes on a connection, and ends its stream.
+fn send(to: &mut TcpStream, bytes: &[u8]) -> io::Result<()> {
+    to.write_all(bytes)?;
+    to.shutdown(Shutdown::Write)
+}
+
+// Two bytes that come on a connection, and how many more.
+fn bytes_to_end(from: &mut TcpStream) -> io::Result<([u8; 4], usize)> {
+    let mut got = [0u8; 4];
+    from.read_exact(&mut got[..2])?;
+    let more = from.read(&mut got[2..])?;
+    Ok((got, more))
+}
+
 // The neighbour: it sends three bytes, ends its stream, sends one more on a second connection, and reads to the end.
 fn neighbour<R>(rt: &R, input: u16, listener: &TcpListener) -> io::Result<([u8; 4], usize)>
 where
@@ -14,32 +28,39 @@ where
 {
     let mut to = dial(rt, input, TRIES)?;
     let (mut from, _) = listener.accept()?;
-    to.write_all(b"abc")?;
-    to.shutdown(Shutdown::Write)?;
+    send(&mut to, b"abc")?;
     let mut again = dial(rt, input, TRIES)?;
-    again.write_all(b"d")?;
-    again.shutdown(Shutdown::Write)?;
-    let mut got = [0u8; 4];
-    from.read_exact(&mut got[..2])?;
-    let more = from.read(&mut got[2..])?;
-    Ok((got, more))
+    send(&mut again, b"d")?;
+    bytes_to_end(&mut from)
 }
 
-// The switch: it reads to the end of two connections, writes two bytes, and hands the sockets back.
-fn switch<R>(rt: &R, input: u16, output: u16) -> Result<([u8; 4], usize, usize, usize), Failed>
-where
-    R: Net<Listener = TcpListener, Stream = TcpStream> + Clock + Eprint + Sync,
-{
-    let mut lines = TcpLines::new(rt, Some(TRIES));
-    let (mut from, mut to) = lines.open(5, &between(input, output))?;
+// What two connections of a line give, and where the first one ends.
+fn read_both<I: Line>(from: &mut I) -> Result<([u8; 4], usize, usize), Failed> {
     let mut got = [0u8; 4];
     let count = from.read(&mut got)?;
     let end = from.read(&mut got[count..])?;
     from.again()?;
     let more = from.read(&mut got[count..])?;
-    let written = to.write(b"xy")?;
+    Ok((got, end, more))
+}
+
+// What comes in, and how many of two bytes are written.
+type Switched = (
+    Result<([u8; 4], usize, usize), Failed>,
+    Result<usize, Failed>,
+);
+
+// The switch: it reads to the end of two connections, writes two bytes, and hands the sockets back.
+fn switch<R>(rt: &R, input: u16, output: u16) -> Result<Switched, Failed>
+where
+    R: Net<Listener = TcpListener, Stream = TcpStream> + Clock + Eprint + Sync,
+{
+    let mut lines = TcpLines::new(rt, Some(TRIES));
+    let (mut from, mut to) = lines.open(5, &between(input, output))?;
+    let got = read_both(&mut from);
+    let written = to.write(b"xy");
     lines.close(5, from, to);
-    Ok((got, end, more, written))
+    Ok((got, written))
 }
 
 #[test]
@@ -53,7 +74,7 @@ fn a_circuit_is_opened_used_and_handed_back(rt: HostRuntime) -> Result<(), Fail>
         || neighbour(runtime, input, waiting).ok(),
         || switch(runtime, input, output),
     );
-    assert!(rt; here == Ok((*b"abcd", 0, 1, 2)));
+    assert!(rt; here == Ok((Ok((*b"abcd", 0, 1)), Ok(2))));
     assert!(rt; there == Some((*b"xy\0\0", 0)));
     Ok(())
 }

@@ -1,3 +1,4 @@
+mod Cited
 mod WaitingLemmas
 mod OrderLemmas
 pub mod LawLemmas

@@ -1,11 +1,5 @@
 -- What goes next.
-use Rattle.std.proofs.Common.{◌≡◌, ◌≢◌, ℕ, ◌<◌, ◌≤◌, Bool, true, false, not, ◌&&◌, ◌||◌, ◌==◌, nat_eq, nat_lt, cond, List, [], ◌∷◌, ◌++◌, filter, find, Some, refl, sym, ap, subst, ◌∙◌, inl, inr, arith, suc, ◌+◌, ◌-◌, ◌⊎◌, length, get_or}
-use Rattle.std.proofs.lemmas.Bool.{true≢false, cases_eq, eqb-true, eq-eqb, ltb-true, ltb-false, both_ways, lt-ltb, le-ltb}
-use Rattle.std.proofs.lemmas.List.{append-nil}
-use Rattle.std.proofs.lemmas.List.Elements.{filter-append}
-use Rattle.std.proofs.lemmas.List.Sums.{sum_by-cons}
-use Rattle.gts_prioq.specs.Cited.{AllAbove, AllBelow, AreWaiting, Ascends, GoesNext, NothingWaits, PutsAt, TakesNext, Waiting, at_level, count_of, goes_before, is_first_of, list_all, list_any, next_of, sum_by, without}
-use Rattle.std.proofs.lemmas.Grind.{common_steps}
+use Rattle.gts_prioq.proofs.Cited.{◌≡◌, ◌≢◌, ℕ, ◌<◌, ◌≤◌, Bool, true, false, not, ◌&&◌, ◌||◌, ◌==◌, nat_eq, nat_lt, cond, List, [], ◌∷◌, ◌++◌, filter, find, Some, refl, sym, ap, subst, ◌∙◌, inl, inr, arith, suc, ◌+◌, ◌-◌, ◌⊎◌, length, get_or, true≢false, cases_eq, eqb-true, eq-eqb, ltb-true, ltb-false, both_ways, lt-ltb, le-ltb, append-nil, filter-append, sum_by-cons, AllAbove, AllBelow, AreWaiting, Ascends, GoesNext, NothingWaits, PutsAt, TakesNext, Waiting, at_level, count_of, goes_before, is_first_of, list_all, list_any, next_of, sum_by, without, common_steps}
 
 -- whether a number stands in a list
 abbrev pub has : List ℕ → ℕ → Bool

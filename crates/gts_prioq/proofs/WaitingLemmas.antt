@@ -1,11 +1,5 @@
 -- What waits after a queue was changed.
-use Rattle.std.proofs.Common.{◌≡◌, ◌≢◌, ℕ, zero, suc, ◌+◌, ◌<◌, ◌≤◌, List, [], ◌∷◌, length, map, get_or, set, refl, sym, ap, subst, ◌∙◌, inl, inr, arith, add-one, true, false, ◌==◌, drop, Option, None, Some, option_copied, IsSome, IfSome, Bor}
-use Rattle.std.proofs.lemmas.List.{map-set, get_or-map, length-map, get_or-set_same, get_or-set_other}
-use Rattle.std.proofs.Math.Seq.{map-set_same}
-use Rattle.std.proofs.lemmas.List.Sums.{sum_by-set}
-use Rattle.std.proofs.lemmas.Bool.{true≢false, cases_eq, eqb-true, eqb-false}
-use Rattle.gts_prioq.specs.Cited.{Global, GoesNext, IsFirstFilled, TakesNext, VecDeque, at_level, count_of, items_at, items_of, room_of, spare, sum_by, waiting_in}
-use Rattle.std.proofs.lemmas.Grind.{common_steps}
+use Rattle.gts_prioq.proofs.Cited.{◌≡◌, ◌≢◌, ℕ, zero, suc, ◌+◌, ◌<◌, ◌≤◌, List, [], ◌∷◌, length, map, get_or, set, refl, sym, ap, subst, ◌∙◌, inl, inr, arith, add-one, true, false, ◌==◌, drop, Option, None, Some, option_copied, IsSome, IfSome, Bor, map-set, get_or-map, length-map, get_or-set_same, get_or-set_other, map-set_same, sum_by-set, true≢false, cases_eq, eqb-true, eqb-false, Global, GoesNext, IsFirstFilled, TakesNext, VecDeque, at_level, count_of, items_at, items_of, room_of, spare, sum_by, waiting_in, common_steps}
 
 abbrev pub Queue : Type 0
 Queue = VecDeque ℕ Global

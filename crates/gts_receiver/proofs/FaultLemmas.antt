@@ -1,11 +1,6 @@
 -- Events that were answered with a fault.
-use Rattle.std.proofs.Common.{◌≡◌, Bool, List, [], ◌∷◌, ◌++◌, Result, Ok, Err, refl, sym, ap, ◌∙◌, subst}
-use Rattle.std.proofs.lemmas.List.{append-nil}
-use Rattle.gts_receiver.specs.Cited.{AddsEntries, AddsFault, AddsJust, Answers, DiskFault, Done, Entry, Event, Full, GoesOn, Hears, IsSpent, NoMemory, Outcome, SayFault, SaysNoMore, Seen, Spent, State, Stopped, SwitchFault, TriesOn, all_done, fault_entries, outcome, own, settled, settled_own}
-use Rattle.gts_calls.proofs.LawLemmas.{just, own_added, own_spent, goes_further}
+use Rattle.gts_receiver.proofs.Cited.{◌≡◌, Bool, List, [], ◌∷◌, ◌++◌, Result, Ok, Err, refl, sym, ap, ◌∙◌, subst, append-nil, AddsEntries, AddsFault, AddsJust, Answers, DiskFault, Done, Entry, Event, Full, GoesOn, Hears, IsSpent, NoMemory, Outcome, SayFault, SaysNoMore, Seen, Spent, State, Stopped, SwitchFault, TriesOn, all_done, fault_entries, outcome, own, settled, settled_own, just, own_added, own_spent, goes_further, common_steps, arith}
 use Rattle.gts_receiver.proofs.SettledLemmas.{settled_all, none_settled, own_settled, answers_go}
-use Rattle.std.proofs.lemmas.Grind.{common_steps}
-use Rattle.std.proofs.Common.{arith}
 
 -- what was done adds its entry
 done_adds : (event : Event) (o : Outcome) (old new : Seen) → Answers old event SaysNoMore (Ok o) new → AddsJust old (Done event) new

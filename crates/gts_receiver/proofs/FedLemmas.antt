@@ -1,13 +1,9 @@
 -- What a piece comes to that was fed at the desk.
-use Rattle.std.proofs.Common.{◌≡◌, Bool, ℕ, ◌+◌, ◌≤◌, List, [], ◌∷◌, ◌++◌, length, take, drop, Result, Ok, Err, refl, sym, ap, ◌∙◌, subst, arith, append_assoc, take-append-drop, IsSome}
-use Rattle.std.proofs.lemmas.List.{append-nil, length-take-le}
-use Rattle.gts_receiver.specs.Cited.{AddsAny, AddsEntries, AddsFault, Answers, Decoding, DiskFault, Doubt, EndsOver, Entry, Event, Fault, Fed, FeedEnd, Feeds, FrameField, Full, GoesOn, Heard, Hears, Idle, IsWanting, Kind, LeavesLast, LostSync, NoMemory, Outcome, PassesBetween, Reads, Receiving, SayFault, SaysNoMore, Seen, Spent, Stopped, SwitchFault, Takes, TriesOn, Unsaid, all_done, all_unsaid, events_added, fault_entries, held_in, own, settled, settled_own}
+use Rattle.gts_receiver.proofs.Cited.{◌≡◌, Bool, ℕ, ◌+◌, ◌≤◌, List, [], ◌∷◌, ◌++◌, length, take, drop, Result, Ok, Err, refl, sym, ap, ◌∙◌, subst, arith, append_assoc, take-append-drop, IsSome, append-nil, length-take-le, AddsAny, AddsEntries, AddsFault, Answers, Decoding, DiskFault, Doubt, EndsOver, Entry, Event, Fault, Fed, FeedEnd, Feeds, FrameField, Full, GoesOn, Heard, Hears, Idle, IsWanting, Kind, LeavesLast, LostSync, NoMemory, Outcome, PassesBetween, Reads, Receiving, SayFault, SaysNoMore, Seen, Spent, Stopped, SwitchFault, Takes, TriesOn, Unsaid, all_done, all_unsaid, events_added, fault_entries, held_in, own, settled, settled_own, front-open, goes_any, goes_on_spent, goes_further, halfway}
 use Rattle.gts_event.specs.declared.event.Event.TheVariants as events
-use Rattle.gts_frame.proofs.LawLemmas.{front-open}
 use Rattle.gts_calls.specs.Fed as feeding
 use Rattle.gts_calls.specs.declared.fed.FeedEnd.TheVariants as fed_ends
 use Rattle.gts_calls.specs.Desks as desks
-use Rattle.gts_calls.proofs.LawLemmas.{goes_any, goes_on_spent, goes_further, halfway}
 use Rattle.gts_receiver.proofs.SettledLemmas.{settled-append, settled_all, any_settled, no_try, stopped_tries, disk_tries, say_tries, spent_tries}
 use Rattle.gts_receiver.proofs.FaultLemmas as faults
 use Rattle.gts_receiver.proofs.FaultLemmas.{done_settles, hears_go}

@@ -1,10 +1,6 @@
 -- The entries of a service without its tries.
-use Rattle.std.proofs.Common.{◌≡◌, ℕ, ◌+◌, ◌≤◌, arith, Bool, true, false, not, List, [], ◌∷◌, ◌++◌, Result, Ok, Err, refl, ap, ◌∙◌}
-use Rattle.std.proofs.lemmas.List.{append-nil}
-use Rattle.std.proofs.lemmas.List.Elements.{filter-append}
-use Rattle.gts_receiver.specs.Cited.{AddsAny, AddsEntries, AddsJust, Answers, AreMost, Device, DiskFault, Done, Doubt, Entry, Event, FrameField, Full, GoesOn, Heard, Hears, Idle, Kind, Lost, NoMemory, Outcome, SayFault, SaysNoMore, Seen, Spent, State, Stopped, SwitchFault, Taken, TriesOn, Unsaid, all_done, is_try, is_wanting, outcome, own, settled, settled_own}
-use Rattle.gts_calls.proofs.LawLemmas.{just, own_added, turned, own_any, goes_on, goes_on_spent, goes_further}
-use Rattle.std.proofs.lemmas.Grind.{common_steps}
+use Rattle.gts_receiver.proofs.Cited.{◌≡◌, ℕ, ◌+◌, ◌≤◌, arith, Bool, true, false, not, List, [], ◌∷◌, ◌++◌, Result, Ok, Err, refl, ap, ◌∙◌, append-nil, filter-append, AddsAny, AddsEntries, AddsJust, Answers, AreMost, Device, DiskFault, Done, Doubt, Entry, Event, FrameField, Full, GoesOn, Heard, Hears, Idle, Kind, Lost, NoMemory, Outcome, SayFault, SaysNoMore, Seen, Spent, State, Stopped, SwitchFault, Taken, TriesOn, Unsaid, all_done, is_try, is_wanting, outcome, own, settled, settled_own, just, own_added, turned, own_any, goes_on_spent, goes_further, common_steps}
+use Rattle.gts_calls.proofs.LawLemmas.{goes_on}
 
 pub settled-append : (w : Bool) (xs ys : List Entry) → settled w (xs ++ ys) ≡ settled w xs ++ settled w ys
 settled-append true xs ys = filter-append (λ (e : Entry). not (is_try e)) xs ys

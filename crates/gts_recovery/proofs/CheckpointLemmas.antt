@@ -1,11 +1,5 @@
 -- A checkpoint is written to the file that isn't the journal's.
-use Rattle.std.proofs.Common.{◌≡◌, ℕ, ◌-◌, ◌<◌, List, [], ◌∷◌, ◌++◌, length, take, refl, sym, ap, arith, length-append}
-use Rattle.std.proofs.lemmas.List.{take_at}
-use Rattle.gts_recovery.specs.Cited.{Call, EndsAt, HasWritten, InHand, IsClosedAt, Need, StandsOn, WorksBeside, checkpoint_file, checkpoint_text, closed_gate, compacted_bytes, first_seal, magic, open_gate, sealed, written}
-use Rattle.gts_record.proofs.LawLemmas.{length-sealed}
-use Rattle.gts_opening.proofs.LawLemmas.{magic_size}
-use Rattle.gts_journal.proofs.LawLemmas.{same_stands}
-use Rattle.std.proofs.lemmas.Grind.{common_steps}
+use Rattle.gts_recovery.proofs.Cited.{◌≡◌, ℕ, ◌-◌, ◌<◌, List, [], ◌∷◌, ◌++◌, length, take, refl, sym, ap, arith, length-append, take_at, Call, EndsAt, HasWritten, InHand, IsClosedAt, Need, StandsOn, WorksBeside, checkpoint_file, checkpoint_text, closed_gate, compacted_bytes, first_seal, magic, open_gate, sealed, written, length-sealed, magic_size, same_stands, common_steps}
 
 -- it ends at the closed gate behind the checkpoint
 pub ends_there : (mark : List ℕ) (n : Need) (used : ℕ) → length mark ≡ 32 → used ≡ compacted_bytes written n

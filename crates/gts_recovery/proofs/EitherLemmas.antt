@@ -1,9 +1,5 @@
 -- A journal that is opened in the version that its magic tells is never one of an older version.
-use Rattle.std.proofs.Common.{◌≡◌, ℕ, zero, suc, ◌+◌, ◌-◌, Bool, true, false, ◌==◌, nat_eq, nat_lt, List, [], ◌∷◌, length, take, drop, Option, Some, None, Result, Ok, Err, subst, IfErr}
-use Rattle.gts_recovery.specs.Cited.{Damaged, Directory, DiskFault, Files, IsAnswer, Need, NoJournal, NoMemory, NotThis, OldVersion, OpenFault, Read, Record, State, Version, admits_checkpoint, after, begun, behind_header, behind_magic, checkpoint_opens, checkpoint_text, compacted_bytes, empty, event_of_record, file_opens, first_seal, is_older, need, need_in, open_gate, opened_of, opens_any, pointwise, record_behind, record_size, record_text, records_at, restarted, seal, selected, selected_bytes, version_of}
-use Rattle.std.proofs.lemmas.Result.{IfErr-weaker}
-use Rattle.std.proofs.lemmas.Grind.{common_steps}
-use Rattle.std.proofs.Common.{arith}
+use Rattle.gts_recovery.proofs.Cited.{◌≡◌, ℕ, zero, suc, ◌+◌, ◌-◌, Bool, true, false, ◌==◌, nat_eq, nat_lt, List, [], ◌∷◌, length, take, drop, Option, Some, None, Result, Ok, Err, subst, IfErr, Damaged, Directory, DiskFault, Files, IsAnswer, Need, NoJournal, NoMemory, NotThis, OldVersion, OpenFault, Read, Record, State, Version, admits_checkpoint, after, begun, behind_header, behind_magic, checkpoint_opens, checkpoint_text, compacted_bytes, empty, event_of_record, file_opens, first_seal, is_older, need, need_in, open_gate, opened_of, opens_any, pointwise, record_behind, record_size, record_text, records_at, restarted, seal, selected, selected_bytes, version_of, IfErr-weaker, common_steps, arith}
 
 -- no older version is answered
 abbrev pub NotOlder : {A : Type 0} → Result A OpenFault → Type 0

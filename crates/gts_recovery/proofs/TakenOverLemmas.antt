@@ -1,12 +1,5 @@
 -- What a need brings under a directory that takes over from its own.
-use Rattle.std.proofs.Common.{◌≡◌, ℕ, zero, suc, ◌+◌, ◌<◌, ◌≤◌, Bool, true, false, not, cond, ◌||◌, ◌==◌, List, [], ◌∷◌, length, map, filter, get_or, slice_get, Some, zip, refl, sym, ap, ◌∙◌, arith}
-use Rattle.gts_recovery.specs.Cited.{BeginWith, Bulletin, Circuit, CircuitNeed, CircuitState, Directory, HeldCircuit, IsHeld, IsOrdered, KeepsPlace, Need, SoundCircuit, State, TakesOver, all_owed_last, are_below, begun, begun_circuit, brought, circuit_need, drawn, draws, due, each_brought, goes_over, has, idle, is_bulletin, is_circuit_sound, is_sound, list_all, list_any, need, on_circuit, owes_kept, restarted, sum_by, unused, waiting}
-use Rattle.std.proofs.lemmas.List.{length-map}
-use Rattle.std.proofs.lemmas.List.Sums.{sum_by-cons}
-use Rattle.std.proofs.lemmas.Bool.{lt-ltb, ltb-true, eq-eqb, ne_eqb, and_parts as and_true, and_from as both_true}
-use Rattle.gts_event.proofs.LawLemmas.{circuit-parts, sound-parts, held-begun, sound-held, waiting-left, filter_same}
-use Rattle.gts_core.proofs.LawLemmas.{all_pass}
-use Rattle.std.proofs.lemmas.Grind.{common_steps}
+use Rattle.gts_recovery.proofs.Cited.{◌≡◌, ℕ, zero, suc, ◌+◌, ◌<◌, ◌≤◌, Bool, true, false, not, cond, ◌||◌, ◌==◌, List, [], ◌∷◌, length, map, filter, get_or, slice_get, Some, zip, refl, sym, ap, ◌∙◌, arith, BeginWith, Bulletin, Circuit, CircuitNeed, CircuitState, Directory, HeldCircuit, IsHeld, IsOrdered, KeepsPlace, Need, SoundCircuit, State, TakesOver, all_owed_last, are_below, begun, begun_circuit, brought, circuit_need, drawn, draws, due, each_brought, goes_over, has, idle, is_bulletin, is_circuit_sound, is_sound, list_all, list_any, need, on_circuit, owes_kept, restarted, sum_by, unused, waiting, length-map, sum_by-cons, lt-ltb, ltb-true, eq-eqb, ne_eqb, and_parts as and_true, and_from as both_true, circuit-parts, sound-parts, held-begun, sound-held, waiting-left, filter_same, all_pass, common_steps}
 
 -- ---- tests
 

@@ -1,12 +1,9 @@
 -- A run broke off within a step, or when it was settled.
-use Rattle.std.proofs.Common.{◌≡◌, ℕ, ◌+◌, ◌<◌, ◌≤◌, List, [], ◌∷◌, ◌++◌, length, Err, sym, ap, subst, ◌∙◌, arith, append_assoc, length-append}
-use Rattle.std.proofs.lemmas.List.{append-nil}
-use Rattle.gts_replay.specs.Cited.{AfterSettling, BreaksAtRestart, BreaksIdle, BreaksOff, BreaksTogether, CaptureKind, Compact, Connections, Directory, DiskFault, Done, Doubt, Entry, Event, Idle, IsCause, IsLasting, IsSettling, NoMemory, OpenFault, SayFault, Spent, Standing, State, Step, Stopped, StoppedBefore, StopsAtFault, SwitchFault, all_done, all_unsaid, compactions_at, connections_after, count_at, entries_at, entries_of_step, no_bytes, origin_at, outcome_at, settled, state_at}
+use Rattle.gts_replay.proofs.Cited.{◌≡◌, ℕ, ◌+◌, ◌<◌, ◌≤◌, List, [], ◌∷◌, ◌++◌, length, Err, sym, ap, subst, ◌∙◌, arith, append_assoc, length-append, append-nil, AfterSettling, BreaksAtRestart, BreaksIdle, BreaksOff, BreaksTogether, CaptureKind, Compact, Connections, Directory, DiskFault, Done, Doubt, Entry, Event, Idle, IsCause, IsLasting, IsSettling, NoMemory, OpenFault, SayFault, Spent, Standing, State, Step, Stopped, StoppedBefore, StopsAtFault, SwitchFault, all_done, all_unsaid, compactions_at, connections_after, count_at, entries_at, entries_of_step, no_bytes, origin_at, outcome_at, settled, state_at, common_steps}
 use Rattle.gts_replay.proofs.GoingLemmas.{within_all, settles_not}
 use Rattle.gts_replay.proofs.OriginLemmas.{AllBehind, wider, behind_append, origin_is, counts_within, counts_more}
 use Rattle.gts_replay.proofs.RunLemmas.{Gathered, origin_done, added_by}
 use Rattle.gts_replay.proofs.FollowLemmas.{AllFrom, Continues, Follows}
-use Rattle.std.proofs.lemmas.Grind.{common_steps}
 
 -- ---- where the switch stands since, behind a part of what was to be added
 

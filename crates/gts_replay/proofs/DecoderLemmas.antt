@@ -1,8 +1,5 @@
 -- The decoders of the circuits.
-use Rattle.std.proofs.Common.{◌≡◌, ℕ, zero, suc, ◌+◌, ◌<◌, List, [], ◌∷◌, ◌++◌, length, get_or, set, take, drop, map, replicate, Option, Some, refl, sym, ap, ◌∙◌, arith}
-use Rattle.std.proofs.lemmas.List.{length-map, map-set}
-use Rattle.gts_replay.specs.Cited.{Circuit, Connections, Decode, Decoding, Directory, fresh, held_in, no_bytes}
-use Rattle.std.proofs.lemmas.Grind.{common_steps}
+use Rattle.gts_replay.proofs.Cited.{◌≡◌, ℕ, zero, suc, ◌+◌, ◌<◌, List, [], ◌∷◌, ◌++◌, length, get_or, set, take, drop, map, replicate, Option, Some, refl, sym, ap, ◌∙◌, arith, length-map, map-set, Circuit, Connections, Decode, Decoding, Directory, fresh, held_in, no_bytes, common_steps}
 
 abbrev held : Decoding → Option (List ℕ)
 held d = d.held

@@ -1,10 +1,6 @@
 -- Takes until one gives nothing.
-use Rattle.std.proofs.Common.{◌≡◌, ℕ, zero, suc, ◌+◌, ◌^◌, ◌<◌, ◌≤◌, ◌-◌, ◌⊎◌, inl, inr, List, [], ◌∷◌, ◌++◌, length, get_or, replicate, Result, Ok, Err, refl, sym, ap, subst, ◌∙◌, arith, append_assoc, length-append}
-use Rattle.gts_replay.specs.Cited.{AllByRecursion, BreaksOff, Choice, CircuitState, Directory, Done, Draw, Draws, Entry, IsAnswered, IsStart, Nothing, Nothing_waits, Outcome, Repeats, Resend, RoutedOnce, Standing, Stands, StandsFor, State, SwitchFault, Taken, after, after_all, after_take, all_done, choice, draws, idle, left_to_give, most_owed, next, on_circuit, outcome, state_at, takes_of_drain, with_drawn}
-use Rattle.std.proofs.lemmas.List.{get_or-set_same}
-use Rattle.gts_event.proofs.LawLemmas.{after_all-append, ordered-all, routed_once-all, owed_few-all, one_less, nothing_left, repeats_first, draws_index}
+use Rattle.gts_replay.proofs.Cited.{◌≡◌, ℕ, zero, suc, ◌+◌, ◌^◌, ◌<◌, ◌≤◌, ◌-◌, ◌⊎◌, inl, inr, List, [], ◌∷◌, ◌++◌, length, get_or, replicate, Result, Ok, Err, refl, sym, ap, subst, ◌∙◌, arith, append_assoc, length-append, AllByRecursion, BreaksOff, Choice, CircuitState, Directory, Done, Draw, Draws, Entry, IsAnswered, IsStart, Nothing, Nothing_waits, Outcome, Repeats, Resend, RoutedOnce, Standing, Stands, StandsFor, State, SwitchFault, Taken, after, after_all, after_take, all_done, choice, draws, idle, left_to_give, most_owed, next, on_circuit, outcome, state_at, takes_of_drain, with_drawn, get_or-set_same, after_all-append, ordered-all, routed_once-all, owed_few-all, one_less, nothing_left, repeats_first, draws_index, common_steps}
 use Rattle.gts_replay.proofs.GoingLemmas.{stands_same, one_done, answer_is, call_breaks, then_breaks, breaks_before}
-use Rattle.std.proofs.lemmas.Grind.{common_steps}
 
 -- so many takes on a circuit
 abbrev pub takes : ℕ → ℕ → List Entry

@@ -1,9 +1,8 @@
 -- How a run ends.
-use Rattle.std.proofs.Common.{◌≡◌, ℕ, ◌+◌, ◌*◌, ◌-◌, ◌^◌, ◌≤◌, ◌⊎◌, inl, inr, List, [], ◌∷◌, ◌++◌, length, Result, Ok, Err, refl, sym, ap, subst, ◌∙◌, arith, length-append}
-use Rattle.gts_replay.specs.Cited.{Bad, BreaksAtCompaction, BreaksOff, CaptureKind, Compact, Connections, Decoding, Directory, DoesStep, Done, EndHead, Ends, EndsEarlyOf, Entry, Feed, FeedHead, HasDone, Head, Held, IsBadAt, IsCut, IsDone, IsHeadOf, IsLasting, IsReadTo, IsSameCapture, IsSettling, IsStepOf, IsWholeOf, Journaled, LONGEST_CAPTURE, LacksMemory, LosesSource, OpenFault, ReplayEnd, Restart, SettlesBehind, SettlesTo, SourceFault, Standing, StandsFor, Step, StepFault, StoppedBefore, StopsAtCompaction, StopsAtFault, StopsAtRestart, StopsInHead, SwitchFault, TakesNoMore, bytes_of_step, connections_after, dec, end_of, entries_at, flat_map, head_of, head_text, no_bytes, origin_at, outcome_at, readable, readable_from, settled_end, state_at, step_text}
+use Rattle.gts_replay.proofs.Cited.{◌≡◌, ℕ, ◌+◌, ◌*◌, ◌-◌, ◌^◌, ◌≤◌, ◌⊎◌, inl, inr, List, [], ◌∷◌, ◌++◌, length, Result, Ok, Err, refl, sym, ap, subst, ◌∙◌, arith, length-append, Bad, BreaksAtCompaction, BreaksOff, CaptureKind, Compact, Connections, Decoding, Directory, DoesStep, Done, EndHead, Ends, EndsEarlyOf, Entry, Feed, FeedHead, HasDone, Head, Held, IsBadAt, IsCut, IsDone, IsHeadOf, IsLasting, IsReadTo, IsSameCapture, IsSettling, IsStepOf, IsWholeOf, Journaled, LONGEST_CAPTURE, LacksMemory, LosesSource, OpenFault, ReplayEnd, Restart, SettlesBehind, SettlesTo, SourceFault, Standing, StandsFor, Step, StepFault, StoppedBefore, StopsAtCompaction, StopsAtFault, StopsAtRestart, StopsInHead, SwitchFault, TakesNoMore, bytes_of_step, connections_after, dec, end_of, entries_at, flat_map, head_text, no_bytes, origin_at, outcome_at, readable, readable_from, settled_end, state_at, step_text, reads, whole_is_read, early_is_none, common_steps}
+use Rattle.gts_replay.specs.Cited.{head_of}
 use Rattle.gts_event.specs.declared.fault.SwitchFault.TheVariants as switch
 use Rattle.gts_record.specs.declared.fault.OpenFault.TheVariants as opening
-use Rattle.gts_connection.proofs.LawLemmas.{reads, whole_is_read, early_is_none}
 use Rattle.gts_replay.proofs.LawLemmas.{at_end, at_bad, taken_head}
 use Rattle.gts_replay.specs.declared.end.ReplayEnd.TheVariants as end
 use Rattle.gts_replay.specs.declared.fault.StepFault.TheVariants as step
@@ -12,7 +11,6 @@ use Rattle.gts_replay.proofs.SureLemmas.{AllSure, sure_from, sure_front, stopped
 use Rattle.gts_replay.proofs.RunLemmas.{Runs, ReadsHead, Gathered, head_here, stands_on, gathered_more, origin_done}
 use Rattle.gts_replay.proofs.FollowLemmas.{Continues, continues_alone, continues_read, Follows, follows, TakesPart, part_taken, part_stopped, cut_in, lost_in}
 use Rattle.gts_replay.proofs.BreakingLemmas.{settling_stops, step_breaks, step_restart}
-use Rattle.std.proofs.lemmas.Grind.{common_steps}
 
 -- ---- an end, by its answer
 

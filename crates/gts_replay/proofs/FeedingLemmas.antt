@@ -1,10 +1,8 @@
 -- The bytes of a connection, piece by piece, and the entries that they add.
-use Rattle.std.proofs.Common.{◌≡◌, ℕ, ◌-◌, List, [], ◌++◌, length, take, drop, Err, sym, ap, subst, ◌∙◌, arith, length-drop}
-use Rattle.std.proofs.lemmas.List.{append-nil, append_assoc, take_all}
-use Rattle.gts_replay.specs.Cited.{BreaksOff, Decoding, Entry, IsFed, Standing, Stands, SwitchFault, all_done, events_added, held_in}
-use Rattle.gts_connection.proofs.LawLemmas.{added-twice}
+use Rattle.gts_replay.proofs.Cited.{◌≡◌, ℕ, ◌-◌, List, [], ◌++◌, length, take, drop, Err, sym, ap, subst, ◌∙◌, arith, append-nil, take_all, BreaksOff, Decoding, Entry, IsFed, Standing, Stands, SwitchFault, all_done, events_added, held_in, added-twice, common_steps}
+use Rattle.std.proofs.Common.{length-drop}
+use Rattle.std.proofs.lemmas.List.{append_assoc}
 use Rattle.gts_replay.proofs.GoingLemmas.{all_done-append, stands_same, then_goes, breaks_before}
-use Rattle.std.proofs.lemmas.Grind.{common_steps}
 
 -- what two pieces add
 pub done_twice : (c : ℕ) (before x y : List ℕ) → all_done (events_added c before (x ++ y)) ≡ all_done (events_added c before x) ++ all_done (events_added c (before ++ x) y)

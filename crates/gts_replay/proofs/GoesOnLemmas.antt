@@ -1,14 +1,8 @@
 -- A capture begins with what was read of it.
-use Rattle.std.proofs.Common.{◌≡◌, ℕ, ◌+◌, ◌-◌, ◌<◌, List, [], ◌∷◌, ◌++◌, length, take, drop, inl, inr, refl, sym, ap, subst, ◌∙◌, append_assoc, arith, length-append}
-use Rattle.gts_replay.specs.Cited.{AreStepsOf, CaptureKind, Directory, EndHead, FeedGoesOn, FeedHead, GoesOn, Held, IsBadAt, IsHeadOf, IsInFeed, IsPartIn, IsReadTo, IsSameCapture, IsTaken, LONGEST_CAPTURE, ReadingIn, ReadingOf, Step, StopsInHead, Whole, flat_map, head_text, readable, readable_from, step_text}
-use Rattle.gts_connection.specs.Capture.{Feed, head_of, Bad, EndsInHead, EndsInFeed}
-use Rattle.std.proofs.lemmas.Bool.{cases_lt}
-use Rattle.std.proofs.lemmas.List.{length-take-le, take-append-drop, take_all}
-use Rattle.std.proofs.lemmas.Grind.{flat_map-append}
-use Rattle.gts_connection.proofs.LawLemmas.{reads, readable-all}
+use Rattle.gts_replay.proofs.Cited.{◌≡◌, ℕ, ◌+◌, ◌-◌, ◌<◌, List, [], ◌∷◌, ◌++◌, length, take, drop, inl, inr, refl, sym, ap, subst, ◌∙◌, append_assoc, arith, length-append, AreStepsOf, CaptureKind, Directory, EndHead, FeedGoesOn, FeedHead, GoesOn, Held, IsBadAt, IsHeadOf, IsInFeed, IsPartIn, IsReadTo, IsSameCapture, IsTaken, LONGEST_CAPTURE, ReadingIn, ReadingOf, Step, StopsInHead, Whole, flat_map, head_text, readable, readable_from, step_text, EndsInHead, EndsInFeed, cases_lt, length-take-le, take-append-drop, take_all, flat_map-append, reads, readable-all, common_steps}
+use Rattle.gts_connection.specs.Capture.{Feed, head_of, Bad}
 use Rattle.gts_replay.specs.Held as stopped
 use Rattle.gts_replay.proofs.ProgressLemmas.{are_more, text_more, read_on, feed_on, at_bad}
-use Rattle.std.proofs.lemmas.Grind.{common_steps}
 
 are_all : (kind : CaptureKind) (d : Directory) (steps more : List Step) → AreStepsOf kind d steps → AreStepsOf kind d more → AreStepsOf kind d (steps ++ more)
 are_all kind d [] more are rest = rest

@@ -1,11 +1,8 @@
 -- The fields of a head, read one behind the other.
-use Rattle.std.proofs.Common.{◌≡◌, ℕ, zero, suc, ◌+◌, ◌-◌, ◌*◌, ◌/◌, ◌<◌, ◌≤◌, ◌==◌, Bool, true, false, List, [], ◌∷◌, ◌++◌, length, Result, Ok, Err, refl, sym, ap, subst, ◌∙◌, arith, if◌then◌else◌}
+use Rattle.gts_replay.proofs.Cited.{◌≡◌, ℕ, zero, suc, ◌+◌, ◌-◌, ◌*◌, ◌/◌, ◌<◌, ◌≤◌, ◌==◌, Bool, true, false, List, [], ◌∷◌, ◌++◌, length, Result, Ok, Err, refl, sym, ap, subst, ◌∙◌, arith, if◌then◌else◌, More, Stop, byte_where, circuit_at, dec, digit_at, end_at, is_digit_below, size_at, ◌>>=◌, eqb-true, and_parts, and_from, leb-true, le-leb, lt-ltb, common_steps}
 use Rattle.gts_replay.specs.declared.head_cursor.Stop.TheVariants.{Bad}
 use Rattle.gts_replay.specs.declared.head.Head.{Head}
-use Rattle.gts_replay.specs.Cited.{More, Stop, byte_where, circuit_at, dec, digit_at, digits_at, end_at, is_digit_below, size_at}
-use Rattle.gts_replay.specs.HeadReading.{◌>>=◌}
-use Rattle.std.proofs.lemmas.Bool.{eqb-true, and_parts, and_from, leb-true, le-leb, lt-ltb}
-use Rattle.std.proofs.lemmas.Grind.{common_steps}
+use Rattle.gts_replay.specs.Cited.{digits_at}
 
 -- ---- texts of heads, each with its head
 

@@ -1,15 +1,9 @@
 -- A head that is read is there, and is refused only where no head stands.
-use Rattle.std.proofs.Common.{◌≡◌, ℕ, ◌<◌, ◌≤◌, ◌==◌, Bool, true, false, List, [], ◌∷◌, ◌++◌, get_or, drop, Result, Ok, Err, refl, sym, ap, subst, ◌∙◌, arith, if◌then◌else◌, nat_lt, ◌&&◌, ◌||◌}
-use Rattle.std.proofs.lemmas.Bool.{false≢true, eqb-true, lt-ltb}
-use borrow.Author.Tests.{ltb-true}
-use Rattle.gts_replay.specs.Cited.{BeginsWithHead, CaptureKind, End, IsHeadIn, IsStop, Journaled, Stop, Traffic, behind_letter, byte_where, circuit_at, dec, end_at, has_journal, head_at, head_text, is_letter, size_at}
+use Rattle.gts_replay.proofs.Cited.{◌≡◌, ℕ, ◌<◌, ◌≤◌, ◌==◌, Bool, true, false, List, [], ◌∷◌, ◌++◌, get_or, drop, Result, Ok, Err, refl, sym, ap, subst, ◌∙◌, arith, if◌then◌else◌, nat_lt, ◌&&◌, ◌||◌, false≢true, eqb-true, lt-ltb, ltb-true, BeginsWithHead, CaptureKind, End, IsHeadIn, IsStop, Journaled, Stop, Traffic, behind_letter, byte_where, circuit_at, dec, end_at, has_journal, head_at, head_text, is_letter, size_at, head_of, ◌>>=◌, common_steps}
 use Rattle.gts_replay.specs.declared.head.Head.TheVariants.{Compact, Drain, Feed, Reopen, Restart, Take}
 use Rattle.gts_replay.specs.declared.head.Head.{Head}
-use Rattle.gts_replay.specs.Heads.{head_of}
-use Rattle.gts_replay.specs.HeadReading.{◌>>=◌}
 use Rattle.gts_connection.specs.Capture as capture
 use Rattle.gts_replay.proofs.HeadFieldLemmas.{Texts, Meets, meets_same, ByteThen, on_byte, CircuitThen, on_circuit, SizeThen, on_size, Ended, some_ended, on_end}
-use Rattle.std.proofs.lemmas.Grind.{common_steps}
 
 -- ---- heads by their first byte
 

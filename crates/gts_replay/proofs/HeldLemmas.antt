@@ -1,12 +1,8 @@
 -- What is held, and what is left of a capture.
-use Rattle.std.proofs.Common.{◌≡◌, ℕ, ◌+◌, ◌-◌, ◌<◌, ◌≤◌, List, [], ◌∷◌, ◌++◌, length, take, drop, sym, ap, subst, ◌∙◌, append_assoc, arith, length-append}
-use Rattle.std.proofs.lemmas.List.{take-append-drop, drop-take, drop-drop, append-nil, length-take-le, length-drop, take-append-le}
-use Rattle.std.proofs.Math.Seq.{take-append-add}
-use borrow.Rule.Slice.PartMut.{put_mid, post_of}
+use Rattle.gts_replay.proofs.Cited.{◌≡◌, ℕ, ◌+◌, ◌-◌, ◌<◌, ◌≤◌, List, [], ◌∷◌, ◌++◌, length, take, drop, sym, ap, subst, ◌∙◌, append_assoc, arith, length-append, take-append-drop, drop-take, drop-drop, append-nil, length-take-le, length-drop, take-append-le, take-append-add, put_mid, post_of, BadByte, CaptureKind, FeedHead, Held, IsBadAt, IsPartIn, IsStop, LONGEST_CAPTURE, dec, head_text, readable_from, common_steps}
 use Rattle.gts_replay.specs.declared.head_cursor.Stop.TheVariants.{Bad}
-use Rattle.gts_replay.specs.Cited.{BadByte, CaptureKind, EndsInHead, FeedHead, Held, IsBadAt, IsPartIn, IsStop, LONGEST_CAPTURE, dec, head_text, readable_from}
+use Rattle.gts_replay.specs.Cited.{EndsInHead}
 use Rattle.gts_connection.specs.Capture as capture
-use Rattle.std.proofs.lemmas.Grind.{common_steps}
 
 -- ---- the part of a buffer from a start to an end
 

@@ -1,3 +1,4 @@
+mod Cited
 pub mod GoingLemmas
 pub mod FeedingLemmas
 pub mod DrainLemmas

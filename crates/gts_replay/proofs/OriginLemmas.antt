@@ -1,12 +1,5 @@
 -- The origin as the journal is compacted.
-use Rattle.std.proofs.Common.{◌≡◌, ℕ, ◌+◌, ◌<◌, ◌≤◌, Bool, true, false, nat_le, cond, List, [], ◌∷◌, ◌++◌, length, take, refl, sym, ap, ◌∙◌, arith, length-append}
-use Rattle.gts_replay.specs.Cited.{AllByRecursion, Compact, Directory, Entry, Standing, State, Step, compacted_at, compactions_at, count_at, done_by, entries_at, no_bytes, origin_after, origin_behind, state_at}
-use Rattle.std.proofs.lemmas.Bool.{le-leb, leb-true}
-use Rattle.std.proofs.lemmas.List.{append-nil, take-append-le}
-use Rattle.std.proofs.lemmas.List.Elements.{filter-append}
-use Rattle.std.proofs.Math.Seq.{take-append_seam}
-use Rattle.gts_connection.proofs.LawLemmas.{compactions_go_on, compactions_between}
-use Rattle.std.proofs.lemmas.Grind.{common_steps}
+use Rattle.gts_replay.proofs.Cited.{◌≡◌, ℕ, ◌+◌, ◌<◌, ◌≤◌, Bool, true, false, nat_le, cond, List, [], ◌∷◌, ◌++◌, length, take, refl, sym, ap, ◌∙◌, arith, length-append, AllByRecursion, Compact, Directory, Entry, Standing, State, Step, compacted_at, compactions_at, count_at, done_by, entries_at, no_bytes, origin_after, origin_behind, state_at, le-leb, leb-true, append-nil, take-append-le, filter-append, take-append_seam, compactions_go_on, compactions_between, common_steps}
 
 abbrev pub AllWithin : ℕ → List ℕ → Type 0
 AllWithin n ks = AllByRecursion (λ k. k ≤ n) ks

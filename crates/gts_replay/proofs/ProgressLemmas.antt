@@ -1,11 +1,7 @@
 -- The steps that were read are those of the capture.
-use Rattle.std.proofs.Common.{◌≡◌, ℕ, ◌+◌, ◌<◌, ◌≤◌, List, [], ◌∷◌, ◌++◌, length, refl, sym, ap, subst, ◌∙◌, append_assoc, arith, length-append}
-use Rattle.gts_replay.specs.Cited.{AreStepsOf, BadByte, CaptureKind, Directory, EndHead, EndsEarlyOf, EndsThere, FeedHead, Held, IsBadAt, IsFrontIn, IsHeadFront, IsHeadIn, IsHeadOf, IsInFeed, IsPartIn, IsPartialHead, IsReadTo, IsSameCapture, IsWholeOf, LONGEST_CAPTURE, ReadingOf, Step, flat_map, head_text, readable, readable_from, step_text}
-use Rattle.gts_connection.specs.Capture.{Feed, Head, head_of, Bad, EndsInHead, EndsInFeed}
-use Rattle.std.proofs.lemmas.List.{append-nil}
-use Rattle.gts_connection.proofs.LawLemmas.{readable-behind}
+use Rattle.gts_replay.proofs.Cited.{◌≡◌, ℕ, ◌+◌, ◌<◌, ◌≤◌, List, [], ◌∷◌, ◌++◌, length, refl, sym, ap, subst, ◌∙◌, append_assoc, arith, length-append, AreStepsOf, BadByte, CaptureKind, Directory, EndHead, EndsEarlyOf, EndsThere, FeedHead, Held, IsBadAt, IsFrontIn, IsHeadFront, IsHeadIn, IsHeadOf, IsInFeed, IsPartIn, IsPartialHead, IsReadTo, IsSameCapture, IsWholeOf, LONGEST_CAPTURE, ReadingOf, Step, flat_map, head_text, readable, readable_from, step_text, EndsInHead, EndsInFeed, append-nil, readable-behind, common_steps}
+use Rattle.gts_connection.specs.Capture.{Feed, Head, head_of, Bad}
 use Rattle.gts_replay.specs.Held as stopped
-use Rattle.std.proofs.lemmas.Grind.{common_steps}
 
 -- ---- heads of a directory
 

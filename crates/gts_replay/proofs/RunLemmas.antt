@@ -1,13 +1,9 @@
 -- Steps of a capture, one after another.
-use Rattle.std.proofs.Common.{◌≡◌, ℕ, ◌+◌, ◌≤◌, List, [], ◌∷◌, ◌++◌, length, Ok, sym, ap, subst, ◌∙◌, arith, append_assoc, length-append}
-use Rattle.std.proofs.lemmas.List.{append-nil}
-use Rattle.gts_replay.specs.Cited.{AreStepsOf, CaptureKind, Compact, Connections, Decode, Decoding, Directory, DoesStep, Entry, FeedHead, Head, Held, IsHeadIn, IsHeadOf, IsReadTo, IsSameCapture, IsStepOf, LONGEST_CAPTURE, Standing, Stands, StandsFor, Step, Takes, after_step, at_start, bytes_announced, bytes_of_step, compacted_at, compactions_at, connections_after, count_at, entries_at, entries_of_step, first_after, head_of, head_text, no_bytes, origin_after, state_at, step_text}
-use Rattle.gts_event.proofs.LawLemmas.{after_all-append}
-use Rattle.gts_connection.proofs.LawLemmas.{entries_go_on, connections_go_on}
+use Rattle.gts_replay.proofs.Cited.{◌≡◌, ℕ, ◌+◌, ◌≤◌, List, [], ◌∷◌, ◌++◌, length, Ok, sym, ap, subst, ◌∙◌, arith, append_assoc, length-append, append-nil, AreStepsOf, CaptureKind, Compact, Connections, Decode, Decoding, Directory, DoesStep, Entry, FeedHead, Head, Held, IsHeadIn, IsHeadOf, IsReadTo, IsSameCapture, IsStepOf, LONGEST_CAPTURE, Standing, Stands, StandsFor, Step, Takes, after_step, at_start, bytes_announced, bytes_of_step, compacted_at, compactions_at, connections_after, count_at, entries_at, entries_of_step, first_after, head_text, no_bytes, origin_after, state_at, step_text, after_all-append, entries_go_on, connections_go_on, common_steps}
+use Rattle.gts_replay.specs.Cited.{head_of}
 use Rattle.gts_replay.proofs.LawLemmas.{begins, one_step}
 use Rattle.gts_replay.proofs.GoingLemmas.{stands_same, within_all}
 use Rattle.gts_replay.proofs.OriginLemmas.{AllWithin, wider, within_append, counts_more, origin_more}
-use Rattle.std.proofs.lemmas.Grind.{common_steps}
 
 -- the origin behind steps that were done
 abbrev pub origin_done : {O W : Type 0} → Standing O W → W → O → List Entry → List Step → O

@@ -1,13 +1,10 @@
 -- What a step took, and which entries it added.
-use Rattle.std.proofs.Common.{◌≡◌, ℕ, ◌+◌, ◌<◌, ◌≤◌, List, [], ◌∷◌, ◌++◌, length, get_or, set, map, Result, Ok, Err, refl, sym, ap, subst, ◌∙◌, arith, append_assoc, length-append}
-use Rattle.std.proofs.lemmas.List.{append-nil}
-use Rattle.gts_replay.specs.Cited.{BreaksOff, Compact, CompactHead, Connections, Decode, Decoding, DoesStep, Drain, DrainHead, EndsBehind, EndsInFeed, Entry, Feed, FeedHead, Feeds, Head, Held, IsAnswered, IsCompacting, IsReopening, IsSameCapture, IsSettling, IsStepOf, LONGEST_CAPTURE, OpenFault, Outcome, Remains, Reopen, ReopenHead, Restart, RestartHead, Restarted, Standing, Stands, StandsFor, Step, StepFault, StopsBehind, StopsInFeed, SwitchFault, Take, TakeHead, Taken, Takes, TakesNoMore, all_done, bytes_of_step, entries_of_step, fresh, held_in, readable_from, restart_of, settled, state_at, takes_of_drain}
-use Rattle.gts_replay.specs.Ending.{HasTaken, Went}
+use Rattle.gts_replay.proofs.Cited.{◌≡◌, ℕ, ◌+◌, ◌<◌, ◌≤◌, List, [], ◌∷◌, ◌++◌, length, get_or, set, map, Result, Ok, Err, refl, sym, ap, subst, ◌∙◌, arith, append_assoc, length-append, append-nil, BreaksOff, Compact, CompactHead, Connections, Decode, Decoding, DoesStep, Drain, DrainHead, EndsBehind, Entry, Feed, FeedHead, Feeds, Head, Held, IsAnswered, IsCompacting, IsReopening, IsSameCapture, IsSettling, IsStepOf, LONGEST_CAPTURE, OpenFault, Outcome, Remains, Reopen, ReopenHead, Restart, RestartHead, Restarted, Standing, Stands, StandsFor, Step, StepFault, StopsBehind, StopsInFeed, SwitchFault, Take, TakeHead, Taken, Takes, TakesNoMore, all_done, bytes_of_step, entries_of_step, fresh, held_in, readable_from, restart_of, settled, state_at, takes_of_drain, HasTaken, Went, common_steps}
+use Rattle.gts_replay.specs.Cited.{EndsInFeed}
 use Rattle.gts_event.specs.declared.fault.SwitchFault.TheVariants as switch
 use Rattle.gts_replay.specs.declared.fault.StepFault.TheVariants as step
 use Rattle.gts_replay.proofs.GoingLemmas.{stands_same, stands_settled, settles_all, settles_not, one_done, call_breaks}
 use Rattle.gts_replay.proofs.DecoderLemmas.{decode_at, decode_set, decode_reopened}
-use Rattle.std.proofs.lemmas.Grind.{common_steps}
 
 same_capture : (held : Held) → IsSameCapture held held
 same_capture held = record { circuits = refl; kind = refl }

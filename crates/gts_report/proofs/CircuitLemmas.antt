@@ -1,10 +1,5 @@
 -- What changes for circuits, one circuit after another.
-use Rattle.std.proofs.Common.{◌≡◌, ℕ, ◌+◌, List, [], ◌∷◌, ◌++◌, flat_map, sym, ap, ◌∙◌, arith}
-use Rattle.gts_report.specs.Cited.{Directory, Need, range_with_len}
-use Rattle.gts_report.specs.Changes.{circuit_lines}
-use Rattle.std.proofs.lemmas.Grind.{flat_map-append}
-use Rattle.std.proofs.lemmas.List.{map-id, append-nil}
-use Rattle.std.proofs.lemmas.List.FromFn.{map-range_with_len_more}
+use Rattle.gts_report.proofs.Cited.{◌≡◌, ℕ, ◌+◌, List, [], ◌∷◌, ◌++◌, flat_map, sym, ap, ◌∙◌, arith, Directory, Need, range_with_len, circuit_lines, flat_map-append, map-id, append-nil, map-range_with_len_more}
 
 range_more : (n : ℕ) → range_with_len 0 (n + 1) ≡ range_with_len 0 n ++ n ∷ []
 range_more n =

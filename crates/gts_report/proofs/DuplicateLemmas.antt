@@ -1,7 +1,5 @@
 -- What is known behind a takeover is what is recent under the new directory.
-use Rattle.std.proofs.Common.{◌≡◌, Bool, true, false, cond, List, [], ◌∷◌, filter, refl, sym, ap, ◌∙◌}
-use Rattle.std.proofs.lemmas.Bool.{or_left as recent_needed}
-use Rattle.gts_report.specs.Cited.{Bulletin, Directory, Need, State, behind, circuit_needs, goes_on, is_needed, is_recent, known, recent_among}
+use Rattle.gts_report.proofs.Cited.{◌≡◌, Bool, true, false, cond, List, [], ◌∷◌, filter, refl, sym, ap, ◌∙◌, or_left as recent_needed, Bulletin, Directory, Need, State, behind, circuit_needs, goes_on, is_needed, is_recent, known, recent_among}
 
 -- what passes one test, of what passes a wider one
 within : (p q : Bulletin → Bool) (bs : List Bulletin) → ((b : Bulletin) → p b ≡ true → q b ≡ true) → filter p (filter q bs) ≡ filter p bs

@@ -1,10 +1,5 @@
 -- Rules as rows with masks, and the names of their circuits.
-use Rattle.std.proofs.Common.{◌≡◌, ℕ, zero, suc, ◌+◌, ◌^◌, ◌<◌, ◌≤◌, Bool, true, false, cond, ◌==◌, ◌&&◌, ◌||◌, nat_eq, List, [], ◌∷◌, ◌++◌, length, map, filter, refl, sym, ap, ◌∙◌, arith}
-use Rattle.gts_report.specs.Cited.{All, AreRulesOf, Directory, RuleRow, bit, bit_at, circuits_in, has_rule, list_any, mask_of, name_text, names_text, pointwise, range_with_len, row_of, rule_of_row, same_rule}
-use Rattle.std.proofs.lemmas.Grind.{flat_map-append}
-use Rattle.std.proofs.lemmas.List.{map-id, append-nil}
-use Rattle.std.proofs.lemmas.List.FromFn.{filter_of_map_range_with_len_more}
-use Rattle.std.proofs.lemmas.Nat.Bits.{bit_at-lt, bit_at_above}
+use Rattle.gts_report.proofs.Cited.{◌≡◌, ℕ, zero, suc, ◌+◌, ◌^◌, ◌<◌, ◌≤◌, Bool, true, false, cond, ◌==◌, ◌&&◌, ◌||◌, nat_eq, List, [], ◌∷◌, ◌++◌, length, map, filter, refl, sym, ap, ◌∙◌, arith, All, AreRulesOf, Directory, RuleRow, bit, bit_at, circuits_in, has_rule, list_any, mask_of, name_text, names_text, pointwise, range_with_len, row_of, rule_of_row, same_rule, flat_map-append, map-id, append-nil, filter_of_map_range_with_len_more, bit_at-lt, bit_at_above}
 
 -- ---- names
 

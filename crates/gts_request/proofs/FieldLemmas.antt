@@ -1,15 +1,6 @@
 -- The fields of a line as they are spelled, and as they are read.
-use Rattle.std.proofs.Common.{◌≡◌, inl, inr, ℕ, suc, ◌+◌, ◌<◌, ◌≤◌, ◌^◌, ◌==◌, Bool, true, false, nat_eq, List, [], ◌∷◌, ◌++◌, length, take, drop, Result, Ok, Err, refl, sym, ap, subst, ◌∙◌, append_assoc, arith, if◌then◌else◌, ◌||◌, take_while}
-use Rattle.gts_request.specs.Cited.{Ahd, AskedHeading, Asker, Cccc, EndsBefore, Entry, HeadingFields, IsCount, IsEntry, Item, LacksEntry, Latest, Line, LineEnd, LineStart, MessageField, Number, Numbers, One, Range, RequestField, Sqn, after_word, asked, bare_heading_at, count_at, dec, digits_value, entry_text, heading_item, is_ascii_digit, item_at, list_all, number_at, numbers_at, run_at, starts_with}
-use Rattle.gts_request.specs.Request.{◌>>=◌}
-use Rattle.std.proofs.lemmas.Bool.{eqb-true, eq-eqb, false≢true, and_parts}
-use Rattle.std.proofs.lemmas.Int.Digits.{digits_value-lt}
-use Rattle.std.proofs.lemmas.List.{length-take-le, take_at, drop_at, take-append-drop}
-use Rattle.std.proofs.lemmas.List.Sums.{take_while-cons}
-use Rattle.gts_alphabet.proofs.LawLemmas.{length-dec, digits_value-dec, AllDigits-dec, test_from_AllDigits, AllDigits-from_test, dec-digits_value}
-use Rattle.gts_heading.proofs.LawLemmas.{word_takes, bare_is_spelled}
+use Rattle.gts_request.proofs.Cited.{◌≡◌, inl, inr, ℕ, suc, ◌+◌, ◌<◌, ◌≤◌, ◌^◌, ◌==◌, Bool, true, false, nat_eq, List, [], ◌∷◌, ◌++◌, length, take, drop, Result, Ok, Err, refl, sym, ap, subst, ◌∙◌, append_assoc, arith, if◌then◌else◌, ◌||◌, take_while, Ahd, AskedHeading, Asker, Cccc, EndsBefore, Entry, HeadingFields, IsCount, IsEntry, Item, LacksEntry, Latest, Line, LineEnd, LineStart, MessageField, Number, Numbers, One, Range, RequestField, Sqn, after_word, asked, bare_heading_at, count_at, dec, digits_value, entry_text, heading_item, is_ascii_digit, item_at, list_all, number_at, numbers_at, run_at, starts_with, ◌>>=◌, eqb-true, eq-eqb, false≢true, and_parts, digits_value-lt, length-take-le, take_at, drop_at, take-append-drop, take_while-cons, length-dec, digits_value-dec, AllDigits-dec, test_from_AllDigits, AllDigits-from_test, dec-digits_value, word_takes, bare_is_spelled, common_steps}
 use Rattle.gts_request.proofs.RequestLemmas.{last_at}
-use Rattle.std.proofs.lemmas.Grind.{common_steps}
 
 -- ---- words
 

@@ -1,13 +1,7 @@
 -- A request's text by its grammar, and as it is read from left to right.
-use Rattle.std.proofs.Common.{◌≡◌, ◌⊎◌, ◌↔◌, inl, inr, ℕ, zero, suc, ◌<◌, ◌&&◌, Bool, true, nat_le, List, [], ◌∷◌, ◌++◌, length, take, drop, map, Option, Some, None, Result, Ok, Err, refl, sym, ap, subst, ◌∙◌, append_assoc, arith, if◌then◌else◌}
-use Rattle.gts_request.specs.Cited.{Ahd, AllByRecursion, AskedLine, Asker, Cccc, EndsBefore, Entry, IsAsker, IsEntry, IsLine, IsRequestFor, Item, Lacks, LacksEnd, LacksEntry, LacksLine, Latest, Line, LineEnd, LineStart, MessageField, One, Place, Range, RequestField, Sqn, StopsAt, StopsAtLine, StopsInLine, are_capitals, asked, behind_asker, behind_item, behind_line, bytes_from, capitals_at, entry_text, item_at, items_at, items_from, line_items, line_start, line_start_at, line_text, lines_items, lines_text, request_at, slashed, step_at}
-use Rattle.gts_request.specs.Request.{◌>>=◌}
-use Rattle.std.proofs.lemmas.Bool.{le-leb, leb-true}
-use Rattle.std.proofs.lemmas.List.{append-nil, length-append, length-take-le, take_at, drop_at, take-append-drop}
-use Rattle.gts_heading.proofs.LawLemmas.{bare_again}
+use Rattle.gts_request.proofs.Cited.{◌≡◌, ◌⊎◌, ◌↔◌, inl, inr, ℕ, zero, suc, ◌<◌, ◌&&◌, Bool, true, nat_le, List, [], ◌∷◌, ◌++◌, length, take, drop, map, Option, Some, None, Result, Ok, Err, refl, sym, ap, subst, ◌∙◌, append_assoc, arith, if◌then◌else◌, Ahd, AllByRecursion, AskedLine, Asker, Cccc, EndsBefore, Entry, IsAsker, IsEntry, IsLine, IsRequestFor, Item, Lacks, LacksEnd, LacksEntry, LacksLine, Latest, Line, LineEnd, LineStart, MessageField, One, Place, Range, RequestField, Sqn, StopsAt, StopsAtLine, StopsInLine, are_capitals, asked, behind_asker, behind_item, behind_line, bytes_from, capitals_at, entry_text, item_at, items_at, items_from, line_items, line_start, line_start_at, line_text, lines_items, lines_text, request_at, slashed, step_at, ◌>>=◌, le-leb, leb-true, append-nil, length-append, length-take-le, take_at, drop_at, take-append-drop, bare_again, common_steps}
 use Rattle.gts_request.proofs.FieldLemmas.{begins, ItemView, item_view, item_again, item_lacks}
 use Rattle.gts_request.proofs.RequestLemmas.{items_after, fault_at, fault_of_first}
-use Rattle.std.proofs.lemmas.Grind.{common_steps}
 
 -- ---- what is behind an item
 

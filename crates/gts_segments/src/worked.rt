@@ -1,5 +1,7 @@
 //! Groups by their places, each row the contract of a function with an empty body.
 
+#![tactic(auto, unfolding(crate::specs::Segments::passing, gts_alphabet::specs::Digits::dec, gts_heading::specs::Heading::heading_text))]
+
 ghost use Rattle.std.specs.Prelude.{◌≡◌, false, true, codes};
 ghost use Rattle.gts_segments.specs.Cited.{group_at, groups_of, passing};
 ghost use Rattle.gts_segments.specs.Worked.{two_noted, whole_heading};

@@ -1,8 +1,5 @@
 -- The turns of a sender.
-use Rattle.std.proofs.Common.{◌≡◌, ℕ, ◌≤◌, Bool, Result, suc, ◌+◌, List, [], ◌∷◌, ◌++◌, length, Some, None, true, false, Ok, Err, refl, sym, ap, ◌∙◌, subst, arith, append_assoc, length-append, replicate}
-use Rattle.std.proofs.lemmas.List.{append-nil, map-append}
-use Rattle.gts_sender.specs.Cited.{Accepted, AddsAll, AddsEntries, AnswersTake, Asked, Breaks, Directory, DiskFault, Doubt, Draw, Duplicate, Entry, Fails, Frame, Full, Gave, GaveAll, GaveNoMore, Idle, IsFront, LeavesFrame, LineLost, NoMemory, Nothing, Outcome, Refused, Resend, SayFault, Seen, SendEnd, Sending, SendsMore, Spent, State, Stopped, SwitchFault, Taken, TakesSome, TookLast, WroteFrames, WroteGiven, WroteUpTo, after, after_takes, begun, fault_takes, frame_of_draw, frames, given_index, most_beside, outcome, own, own_frames, state_at, takes, texts, under}
-use Rattle.gts_calls.proofs.LawLemmas.{own_added, frames_added, frames_behind, frames_one, own_spent, frames_spent, goes_on, goes_on_spent, goes_further, stays}
+use Rattle.gts_sender.proofs.Cited.{◌≡◌, ℕ, ◌≤◌, Bool, Result, suc, ◌+◌, List, [], ◌∷◌, ◌++◌, length, Some, None, true, false, Ok, Err, refl, sym, ap, ◌∙◌, subst, arith, append_assoc, length-append, replicate, append-nil, map-append, Accepted, AddsAll, AddsEntries, AnswersTake, Asked, Breaks, Directory, DiskFault, Doubt, Draw, Duplicate, Entry, Fails, Frame, Full, Gave, GaveAll, GaveNoMore, Idle, IsFront, LeavesFrame, LineLost, NoMemory, Nothing, Outcome, Refused, Resend, SayFault, Seen, SendEnd, Sending, SendsMore, Spent, State, Stopped, SwitchFault, Taken, TakesSome, TookLast, WroteFrames, WroteGiven, WroteUpTo, after, after_takes, begun, fault_takes, frame_of_draw, frames, given_index, most_beside, outcome, own, own_frames, state_at, takes, texts, under, own_added, frames_added, frames_behind, frames_one, own_spent, frames_spent, goes_on, goes_on_spent, goes_further, stays}
 use Rattle.gts_sender.specs.declared.end.SendEnd.TheVariants as ends
 use Rattle.gts_sender.proofs.TurnLemmas.{taken, takes_plus, state_behind, gave_nothing, frames_given, frames_no_more, gave_front}
 

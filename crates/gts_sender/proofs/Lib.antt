@@ -1,3 +1,4 @@
+mod Cited
 pub mod TurnLemmas
 pub mod DrawLemmas
 pub mod WritingLemmas

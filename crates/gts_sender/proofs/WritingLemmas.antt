@@ -1,9 +1,5 @@
 -- Frames that are written one after another.
-use Rattle.std.proofs.Common.{◌≡◌, ◌<◌, ◌≤◌, ◌+◌, ℕ, suc, List, [], ◌∷◌, ◌++◌, length, take, drop, Result, Ok, Err, refl, sym, ap, ◌∙◌, arith, append_assoc}
-use Rattle.gts_sender.specs.Cited.{Frame, IsFront, Laid, Placed, Wrote, WroteUpTo, frames_in, frames_of, no_frame, slice_index_or, texts}
-use Rattle.std.proofs.Math.Seq.{split_at}
-use Rattle.std.proofs.lemmas.List.{append-nil, take_all}
-use Rattle.std.proofs.lemmas.Grind.{common_steps}
+use Rattle.gts_sender.proofs.Cited.{◌≡◌, ◌<◌, ◌≤◌, ◌+◌, ℕ, suc, List, [], ◌∷◌, ◌++◌, length, take, drop, Result, Ok, Err, refl, sym, ap, ◌∙◌, arith, append_assoc, Frame, IsFront, Laid, Placed, Wrote, WroteUpTo, frames_in, frames_of, no_frame, slice_index_or, texts, split_at, append-nil, take_all, common_steps}
 
 texts-append : (xs ys : List Frame) → texts (xs ++ ys) ≡ texts xs ++ texts ys
 texts-append [] ys = refl

@@ -1,11 +1,6 @@
 -- Records of a feed are added to a journal.
-use Rattle.std.proofs.Common.{◌≡◌, ℕ, zero, suc, ◌+◌, ◌-◌, ◌≤◌, Bool, true, false, cond, List, [], ◌∷◌, ◌++◌, length, drop, Option, Some, None, Result, Ok, Err, refl, sym, ap, ◌∙◌, arith, length-append, nat_lt}
-use Rattle.std.proofs.lemmas.Bool.{le-ltb}
+use Rattle.gts_standby.proofs.Cited.{◌≡◌, ℕ, zero, suc, ◌+◌, ◌-◌, ◌≤◌, Bool, true, false, cond, List, [], ◌∷◌, ◌++◌, length, drop, Option, Some, None, Result, Ok, Err, refl, sym, ap, ◌∙◌, arith, length-append, nat_lt, le-ltb, Accept, Breaks, Call, Core, Directory, Drew, Ends, HoldsAt, InHand, IsOpened, Need, OpenFault, OpensTo, Read, Record, StandsFor, State, Taken, Version, add_all, adding, admits, after, event_of_record, files_read, may_be_cut, may_begin, need, opened_of, record_behind, record_size, record_text, restarted, seal, seal_size, sealed, sealed_at, seen, stopped, written, record_at, record_at-found, sealed_at-stands, sealed_fits, length-sealed, common_steps}
 use Rattle.std.proofs.lemmas.List.{append_assoc}
-use Rattle.gts_standby.specs.Cited.{Accept, Breaks, Call, Core, Directory, Drew, Ends, HoldsAt, InHand, IsOpened, Need, OpenFault, OpensTo, Read, Record, StandsFor, State, Taken, Version, add_all, adding, admits, after, event_of_record, files_read, may_be_cut, may_begin, need, opened_of, record_behind, record_size, record_text, restarted, seal, seal_size, sealed, sealed_at, seen, stopped, written}
-use Rattle.gts_record.specs.Record.{record_at}
-use Rattle.gts_record.proofs.LawLemmas.{record_at-found, sealed_at-stands, sealed_fits, length-sealed}
-use Rattle.std.proofs.lemmas.Grind.{common_steps}
 
 pub holds_of : (observed : Type 0) (d : Directory) (calls : List Call) (core : Core) (j : InHand) (o : IsOpened observed d calls core j) → HoldsAt observed d o.state calls core j
 holds_of observed d calls core j o = record { kept = o.kept; current = o.current; ended = o.ended; stands = o.stands }

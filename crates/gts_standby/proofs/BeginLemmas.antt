@@ -1,12 +1,5 @@
 -- A journal without records begins with the checkpoint of a feed.
-use Rattle.std.proofs.Common.{◌≡◌, ◌≢◌, ◌⊎◌, inl, inr, ℕ, ◌+◌, ◌-◌, ◌^◌, ◌<◌, true, List, [], length, Ok, refl, sym, ap, subst, ◌∙◌, arith}
-use Rattle.std.proofs.lemmas.Bool.{cases_eq}
-use Rattle.std.proofs.lemmas.List.{append-nil}
-use Rattle.gts_standby.specs.Cited.{Call, Directory, EachSince, Files, FitsLimit, HasWritten, HoldsState, InHand, LeavesBoth, LeavesOthers, Need, Outside, ReadsToOneOf, StandsFor, StandsOn, State, Version, WorksBeside, begun, closed_gate, compacted_bytes, file_opens, files_read, is_sound, need_seal, read_anew, read_at, said_by, seen, selected, selecting, unowed, written}
-use Rattle.gts_traits.proofs.LawLemmas.{weaker, joined}
-use Rattle.gts_opening.proofs.LawLemmas.{file_opens-checkpoint, selected_few}
-use Rattle.gts_journal.proofs.LawLemmas.{selected_stands, both_left, same_stands_for}
-use Rattle.std.proofs.lemmas.Grind.{common_steps}
+use Rattle.gts_standby.proofs.Cited.{◌≡◌, ◌≢◌, ◌⊎◌, inl, inr, ℕ, ◌+◌, ◌-◌, ◌^◌, ◌<◌, true, List, [], length, Ok, refl, sym, ap, subst, ◌∙◌, arith, cases_eq, append-nil, Call, Directory, EachSince, Files, FitsLimit, HasWritten, HoldsState, InHand, LeavesBoth, LeavesOthers, Need, Outside, ReadsToOneOf, StandsFor, StandsOn, State, Version, WorksBeside, begun, closed_gate, compacted_bytes, file_opens, files_read, is_sound, need_seal, read_anew, read_at, said_by, seen, selected, selecting, unowed, written, weaker, joined, file_opens-checkpoint, selected_few, selected_stands, both_left, same_stands_for, common_steps}
 
 -- ---- what a crash leaves
 

@@ -1,12 +1,8 @@
 -- What is behind a place ends the feed.
-use Rattle.std.proofs.Common.{◌≡◌, ℕ, zero, suc, ◌+◌, ◌-◌, Bool, true, false, ◌&&◌, nat_eq, nat_le, List, [], ◌∷◌, ◌++◌, length, drop, Option, Some, None, inl, inr, refl, sym, ap, subst, ◌∙◌, arith, append_assoc, ◌==◌, ◌⊎◌}
-use Rattle.gts_standby.specs.Cited.{EndsWith, HasFront, IsBehindFront, Need, Record, Version, behind_at, behind_place, checkpoint_text, compacted_bytes, feed_at, feed_behind, first_seal, found_since, held, is_checkpoint, need_in, pointwise, record_at, record_size, record_text, same_text, seal, sealed, where_so}
-use Rattle.std.proofs.lemmas.Bool.{and_parts}
-use Rattle.std.proofs.lemmas.List.{append-nil}
-use Rattle.gts_journal.proofs.LawLemmas.{one_back}
+use Rattle.gts_standby.proofs.Cited.{◌≡◌, ℕ, zero, suc, ◌+◌, ◌-◌, Bool, true, false, ◌&&◌, nat_eq, nat_le, List, [], ◌∷◌, ◌++◌, length, drop, Option, Some, None, inl, inr, refl, sym, ap, subst, ◌∙◌, arith, append_assoc, ◌==◌, ◌⊎◌, EndsWith, HasFront, IsBehindFront, Need, Record, Version, behind_at, behind_place, checkpoint_text, compacted_bytes, feed_at, feed_behind, first_seal, found_since, held, is_checkpoint, need_in, pointwise, record_size, record_text, same_text, seal, sealed, where_so, and_parts, append-nil, one_back, common_steps}
+use Rattle.gts_standby.specs.Cited.{record_at}
 use Rattle.gts_standby.proofs.FeedLemmas.{feed_of_record, feed_of_gate}
 use Rattle.gts_standby.proofs.SinceLemmas.{by_place}
-use Rattle.std.proofs.lemmas.Grind.{common_steps}
 
 -- a record behind an open gate is the next one of the feed
 pub feed_on : (v : Version) (n : ℕ) (before bytes : List ℕ) (r : Record) → record_at v before bytes ≡ Some r

@@ -1,17 +1,12 @@
 -- What a standby has and what it lacks are the feed.
-use Rattle.std.proofs.Common.{◌≡◌, ℕ, zero, suc, ◌+◌, ◌-◌, ◌≤◌, Bool, true, false, ◌&&◌, nat_eq, nat_le, List, [], ◌∷◌, ◌++◌, length, take, drop, Option, Some, None, Ok, Err, refl, sym, ap, subst, ◌∙◌, arith, append_assoc, ◌==◌}
-use Rattle.gts_standby.specs.Cited.{AreOneBySeal, Damaged, Directory, Files, IsFoundBehind, Need, Read, Record, StandsFed, State, Version, admits_checkpoint, after, begun, behind_at, behind_place, checkpoint_text, compacted_bytes, empty, event_of_record, feed_at, feed_behind, file_opens, first_seal, header_fault, held, is_checkpoint, magic, need_in, pointwise, record_at, record_size, record_text, records_at, records_fed, same_text, seal, seal_behind, seal_size, sealed, selected, selected_bytes, where_so, written}
-use Rattle.std.proofs.lemmas.Bool.{and_parts, eqb-true}
-use Rattle.std.proofs.lemmas.List.{append-nil, take_all}
-use Rattle.gts_record.proofs.LawLemmas.{length-seal}
-use Rattle.gts_journal.proofs.LawLemmas.{opens_behind}
+use Rattle.gts_standby.proofs.Cited.{◌≡◌, ℕ, zero, suc, ◌+◌, ◌-◌, ◌≤◌, Bool, true, false, ◌&&◌, nat_eq, nat_le, List, [], ◌∷◌, ◌++◌, length, take, drop, Option, Some, None, Ok, Err, refl, sym, ap, subst, ◌∙◌, arith, append_assoc, ◌==◌, AreOneBySeal, Damaged, Directory, Files, IsFoundBehind, Need, Read, Record, StandsFed, State, Version, admits_checkpoint, after, begun, behind_at, behind_place, checkpoint_text, compacted_bytes, empty, event_of_record, feed_at, feed_behind, file_opens, first_seal, header_fault, held, is_checkpoint, magic, need_in, pointwise, record_size, record_text, records_at, records_fed, same_text, seal, seal_behind, seal_size, sealed, selected, selected_bytes, where_so, written, and_parts, eqb-true, append-nil, take_all, length-seal, opens_behind, common_steps}
+use Rattle.gts_standby.specs.Cited.{record_at}
 use Rattle.gts_standby.proofs.BehindLemmas.{feed_on}
 use Rattle.gts_standby.proofs.FeedLemmas.{feed_one, feed_none, IsEnd, IsRecord, at_entry}
 use Rattle.gts_standby.proofs.FirstLemmas.{by_admission}
 use Rattle.gts_standby.proofs.HistoryLemmas.{header_is}
 use Rattle.gts_standby.proofs.SinceLemmas.{by_place}
 use Rattle.gts_standby.proofs.TakeLemmas.{sound_header}
-use Rattle.std.proofs.lemmas.Grind.{common_steps}
 
 -- the place of the gate behind these records
 abbrev gate_behind : Version → List (List ℕ) → ℕ

@@ -1,13 +1,11 @@
 -- The records of a journal are compared with those of a feed.
-use Rattle.std.proofs.Common.{◌≡◌, inl, inr, ℕ, ◌+◌, ◌-◌, ◌<◌, ◌≤◌, Bool, true, false, nat_eq, List, [], ◌∷◌, length, drop, Option, Some, Result, Ok, Err, refl, sym, ap, subst, ◌∙◌, arith}
-use Rattle.gts_standby.specs.Cited.{Call, Compares, Did, Directory, Diverged, Done, Feed, FollowEnd, Gives, HasCompared, HasGoneOn, HasRead, InFeed, InHand, IsAtFirst, IsAtSeals, IsBehindOne, IsDamage, IsDevice, IsFaultOf, Leads, Need, Open, OpenFault, Parts, PassesNext, Piece, Sealed, StandsOn, StopsAs, StopsAt, Syncs, Taken, Version, admits_checkpoint, by_piece, checkpoint_seals, checkpoint_text, compacted_bytes, compare_all, compare_first, file_of, first_piece, first_seal, held, is_at_checkpoint, is_checkpoint, need_in, next_entry, next_seal, open_end, own_seals, pointwise, record_of, record_piece, record_size, seal, seals_at, seals_behind, seals_here, seen, stopped, written}
+use Rattle.gts_standby.proofs.Cited.{◌≡◌, inl, inr, ℕ, ◌+◌, ◌-◌, ◌<◌, ◌≤◌, Bool, true, false, nat_eq, List, [], ◌∷◌, length, drop, Option, Some, Result, Ok, Err, refl, sym, ap, subst, ◌∙◌, arith, Call, Compares, Did, Directory, Diverged, Done, Feed, FollowEnd, Gives, HasCompared, HasGoneOn, HasRead, InFeed, InHand, IsAtFirst, IsAtSeals, IsBehindOne, IsDamage, IsDevice, IsFaultOf, Leads, Need, Open, OpenFault, Parts, PassesNext, Piece, Sealed, StandsOn, StopsAs, StopsAt, Syncs, Taken, Version, admits_checkpoint, by_piece, checkpoint_seals, checkpoint_text, compacted_bytes, compare_all, compare_first, file_of, first_piece, first_seal, held, is_at_checkpoint, is_checkpoint, need_in, next_entry, next_seal, open_end, own_seals, pointwise, record_of, record_piece, record_size, seal, seals_at, seals_behind, seals_here, seen, stopped, written, common_steps}
 use Rattle.gts_record.specs.declared.value.Record.{Record}
 use Rattle.gts_checkpoint.specs.Reading.{HasRead as HasReadNeed}
 use Rattle.gts_record.specs.Record as texts
 use Rattle.gts_record.specs.declared.fault.OpenFault.TheVariants as opening
 use Rattle.gts_standby.proofs.FeedLemmas.{leads_on, none_left, left_split, no_end, no_fault}
 use Rattle.gts_standby.proofs.FirstLemmas.{plain_first, checkpoint_reaches}
-use Rattle.std.proofs.lemmas.Grind.{common_steps}
 
 -- ---- what a journal answered
 

@@ -1,13 +1,6 @@
 -- The next record of a feed, by the bytes that were read ahead.
-use Rattle.std.proofs.Common.{◌≡◌, ◌⊎◌, ⊎_elim, ℕ, ◌+◌, ◌-◌, ◌≤◌, Bool, true, false, cond, List, [], ◌∷◌, ◌++◌, length, replicate, Option, Some, None, refl, sym, ap, subst, ◌∙◌, arith, length-append, nat_lt, nat_le, is_some, append_assoc}
-use Rattle.std.proofs.lemmas.Bool.{le-ltb}
-use Rattle.std.proofs.lemmas.Bool.Decides.{nat_tests}
-use Rattle.gts_standby.specs.Cited.{Accept, An, Bi, Breaks, Broken, Cut, Done, Drew, Ends, Feed, FollowEnd, Fx, HasRead, InFeed, IsUnsealed, LONGEST, LONGEST_BODY, Piece, Record, Sealed, StopsAs, Taken, Version, by_piece, is_short, may_be_cut, may_begin, record_piece, record_size, record_text, rest_of, seal, seal_size, sealed, sealed_at, stopped, unsealed}
-use Rattle.gts_record.specs.Record.{record_at}
-use Rattle.gts_record.proofs.LawLemmas.{record_at-found, record_at-stands, found_fits, length-sealed, sealed_at-found, sealed_at-stands, sealed_fits}
+use Rattle.gts_standby.proofs.Cited.{◌≡◌, ◌⊎◌, ⊎_elim, ℕ, ◌+◌, ◌-◌, ◌≤◌, Bool, true, false, cond, List, [], ◌∷◌, ◌++◌, length, replicate, Option, Some, None, refl, sym, ap, subst, ◌∙◌, arith, length-append, nat_lt, nat_le, is_some, append_assoc, le-ltb, nat_tests, Accept, An, Bi, Breaks, Broken, Cut, Done, Drew, Ends, Feed, FollowEnd, Fx, HasRead, InFeed, IsUnsealed, LONGEST, LONGEST_BODY, Piece, Record, Sealed, StopsAs, Taken, Version, by_piece, is_short, may_be_cut, may_begin, record_piece, record_size, record_text, rest_of, seal, seal_size, sealed, sealed_at, stopped, unsealed, record_at, record_at-found, record_at-stands, found_fits, length-sealed, sealed_at-found, sealed_at-stands, sealed_fits, few_bytes, common_steps}
 use Rattle.gts_standby.proofs.HeaderLemmas.{no_more}
-use Rattle.gts_journal.proofs.LawLemmas.{few_bytes}
-use Rattle.std.proofs.lemmas.Grind.{common_steps}
 
 -- ---- records at the front of bytes and of more
 

@@ -1,10 +1,5 @@
 -- What is left of a feed, record by record.
-use Rattle.std.proofs.Common.{◌≡◌, ℕ, zero, suc, ◌+◌, ◌-◌, ◌<◌, ◌≤◌, Bool, true, false, List, [], ◌∷◌, ◌++◌, length, take, drop, Option, Some, None, Result, Ok, Err, refl, sym, ap, subst, ◌∙◌, arith, length-append, length-drop}
-use Rattle.std.proofs.lemmas.List.{drop-drop, take_at}
-use Rattle.gts_standby.specs.Cited.{Damaged, Directory, Leads, OpenFault, Reaches, Record, State, Version, admits, after, entry_at, event_of_record, feed_at, open_gate, record_size, record_text, records_at, seal, sealed, sealed_at, seals_at}
-use Rattle.gts_record.proofs.LawLemmas.{length-sealed, sealed_at-stands}
-use Rattle.gts_journal.proofs.LawLemmas.{at_mark, at_found, was_found, one_back, reads_one, refuses_one, reads_end_there, reads_fault}
-use Rattle.std.proofs.lemmas.Grind.{common_steps}
+use Rattle.gts_standby.proofs.Cited.{◌≡◌, ℕ, zero, suc, ◌+◌, ◌-◌, ◌<◌, ◌≤◌, Bool, true, false, List, [], ◌∷◌, ◌++◌, length, take, drop, Option, Some, None, Result, Ok, Err, refl, sym, ap, subst, ◌∙◌, arith, length-append, length-drop, drop-drop, take_at, Damaged, Directory, Leads, OpenFault, Reaches, Record, State, Version, admits, after, entry_at, event_of_record, feed_at, open_gate, record_size, record_text, records_at, seal, sealed, sealed_at, seals_at, length-sealed, sealed_at-stands, at_mark, at_found, was_found, one_back, reads_one, refuses_one, reads_end_there, reads_fault, common_steps}
 
 -- ---- the feed from a gate on
 

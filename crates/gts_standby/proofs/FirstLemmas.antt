@@ -1,17 +1,10 @@
 -- How a feed begins.
-use Rattle.std.proofs.Common.{◌≡◌, ℕ, ◌+◌, ◌-◌, ◌*◌, ◌≤◌, Bool, true, false, cond, ◌&&◌, nat_eq, nat_le, List, [], ◌∷◌, ◌++◌, length, take, drop, Option, Some, None, Result, Ok, Err, inl, inr, refl, sym, ap, subst, ◌∙◌, arith, append_assoc, length-append, length-drop, take-append-drop, IfErr, OnOk, not}
-use Rattle.gts_standby.specs.Cited.{Call, Damaged, Did, Directory, Files, GoesOnBehind, HasOpened, InHand, IsAtFirst, IsAtGate, IsDamage, IsFaultOf, IsQuiet, IsShipFault, Need, OnlySyncs, OnlySyncsUnopened, OpenFault, Reaches, Read, SaysFront, SaysHere, SaysOnly, SaysRest, ShipFault, ShipsOnly, StandsFor, StandsOn, State, Syncs, Version, admits_checkpoint, agreeing, begun, behind_header, checkpoint_feed, checkpoint_opens, checkpoint_text, compacted_bytes, draw_size, due, empty, feed, feed_at, feed_behind, feed_of, file_of, file_opens, files_read, first_fault, first_seal, header_fault, is_at_checkpoint, is_checkpoint, is_sealed, is_sound, magic, need, need_in, on, opens, records_at, restarted, same_text, seal, sealed, seen, selected, selected_bytes, ship_fault, starts_with, written}
+use Rattle.gts_standby.proofs.Cited.{◌≡◌, ℕ, ◌+◌, ◌-◌, ◌*◌, ◌≤◌, Bool, true, false, cond, ◌&&◌, nat_eq, nat_le, List, [], ◌∷◌, ◌++◌, length, take, drop, Option, Some, None, Result, Ok, Err, inl, inr, refl, sym, ap, subst, ◌∙◌, arith, append_assoc, length-append, length-drop, take-append-drop, IfErr, OnOk, not, Call, Damaged, Did, Directory, Files, GoesOnBehind, HasOpened, InHand, IsAtFirst, IsAtGate, IsDamage, IsFaultOf, IsQuiet, IsShipFault, Need, OnlySyncs, OnlySyncsUnopened, OpenFault, Reaches, Read, SaysFront, SaysHere, SaysOnly, SaysRest, ShipFault, ShipsOnly, StandsFor, StandsOn, State, Syncs, Version, admits_checkpoint, agreeing, begun, behind_header, checkpoint_feed, checkpoint_opens, checkpoint_text, compacted_bytes, draw_size, due, empty, feed, feed_at, feed_behind, feed_of, file_of, file_opens, files_read, first_fault, first_seal, header_fault, is_at_checkpoint, is_checkpoint, is_sealed, is_sound, magic, need, need_in, on, opens, records_at, restarted, same_text, seal, sealed, seen, selected, selected_bytes, ship_fault, starts_with, written, and_parts, take_at, said_none, said_more, front_behind, untouched_call, length-sealed, faulty_header, opens_behind, common_steps}
 use Rattle.gts_traits.specs.Cited.{Broken}
 use Rattle.gts_checkpoint.specs.Reading.{HasRead}
-use Rattle.std.proofs.lemmas.Bool.{and_parts}
-use Rattle.std.proofs.lemmas.List.{take_at}
-use Rattle.gts_traits.proofs.SayLemmas.{said_none, said_more, front_behind, untouched_call}
 use Rattle.gts_record.specs.declared.fault.OpenFault.TheVariants as opening
-use Rattle.gts_record.proofs.LawLemmas.{length-sealed}
-use Rattle.gts_journal.proofs.LawLemmas.{faulty_header, opens_behind}
 use Rattle.gts_standby.specs.declared.fault.ShipFault.TheVariants as fault
 use Rattle.gts_standby.proofs.SayLemmas.{says_more, fronts_behind, fronts_more}
-use Rattle.std.proofs.lemmas.Grind.{common_steps}
 
 -- ---- the header
 

@@ -1,19 +1,14 @@
 -- What a front of a feed adds is a front of what the feed adds.
-use Rattle.std.proofs.Common.{◌≡◌, inr, ℕ, zero, suc, ◌+◌, ◌-◌, ◌^◌, ◌<◌, ◌≤◌, Bool, true, false, cond, ◌&&◌, List, [], ◌∷◌, ◌++◌, length, take, drop, replicate, Option, Some, None, Result, Ok, Err, nat_eq, nat_le, nat_lt, refl, sym, ap, subst, ◌∙◌, arith, length-append, codes, ◌==◌, not}
-use Rattle.gts_standby.specs.Cited.{AddsFront, AddsNothing, AddsPart, Bad, Behind, Breaks, Broken, Cut, Directory, End, Ends, Files, InFeed, Need, OpenFault, Parts, Piece, Reached, Read, Record, Sealed, Short, State, Taken, Version, add_all, adding, admits, admits_checkpoint, after, agreeing, and_then, begin_first, begin_with, begun, begun_taken, behind_all, behind_bulletin, behind_checkpoint, behind_circuit, behind_counted, behind_lists, bulletin_size, by_piece, checkpoint_piece, checkpoint_seals, checkpoint_text, circuit_size, comes_to, compacted_bytes, compare_all, compared, empty, entry_at, event_of_record, files_read, first_piece, first_seal, is_behind, is_checkpoint, is_checkpoint_fed, is_further, is_other_first, is_sealed, least_bulletin, least_front, magic, may_be_cut, need, need_in, number_at, or_anew, or_else, own_seals, pointwise, reach, reach_found, record_behind, record_piece, record_size, record_text, records_at, seal, seal_size, sealed_at, seals_at, seals_behind, selected, selected_bytes, starts_with, stopped, take_records, taken, written}
-use Rattle.std.proofs.lemmas.Bool.{and_parts, ltb-false}
-use Rattle.std.proofs.lemmas.Bool.Decides.{nat_tests}
-use Rattle.std.proofs.lemmas.List.{append-nil, length-drop}
-use Rattle.gts_opening.proofs.LawLemmas.{magic_size}
-use Rattle.gts_journal.proofs.LawLemmas.{opens_behind, reads_end_there, reads_fault}
+use Rattle.gts_standby.proofs.Cited.{◌≡◌, inr, ℕ, zero, suc, ◌+◌, ◌-◌, ◌^◌, ◌<◌, ◌≤◌, Bool, true, false, cond, ◌&&◌, List, [], ◌∷◌, ◌++◌, length, take, drop, Option, Some, None, Result, Ok, Err, nat_eq, nat_le, refl, sym, ap, subst, ◌∙◌, arith, length-append, ◌==◌, not, AddsFront, AddsNothing, AddsPart, Bad, Behind, Breaks, Broken, Bulletin, Circuit, Cut, Directory, End, Ends, FRONT, Files, InFeed, Listed, Need, OpenFault, Parts, Piece, Reached, Read, Record, Sealed, Short, State, Taken, Version, add_all, adding, admits, admits_checkpoint, after, agreeing, and_then, begin_first, begin_with, begun, begun_taken, behind_all, behind_checkpoint, behind_counted, behind_front, behind_one, by_piece, checkpoint_piece, checkpoint_seals, checkpoint_text, comes_to, compacted_bytes, compare_all, compared, empty, entry_at, event_of_record, files_read, first_piece, first_seal, front_counts, is_behind, is_checkpoint, is_checkpoint_fed, is_further, is_other_first, listed_size, magic, may_be_cut, need, need_in, or_anew, own_seals, pointwise, reach, reach_found, record_behind, record_piece, record_size, record_text, records_at, seal, seal_size, sealed_at, seals_at, seals_behind, selected, selected_bytes, starts_with, stopped, take_records, taken, written, and_parts, ltb-false, nat_tests, append-nil, drop-append-le, magic_size, front_more, listed_low, listed_more, opens_behind, reads_end_there, reads_fault, common_steps}
+use Rattle.std.proofs.lemmas.List.{length-drop}
 use Rattle.gts_standby.proofs.HeaderLemmas.{all_agree, agreeing-low}
 use Rattle.gts_standby.proofs.FedLemmas.{sealed_more, found_fits_there, piece_by}
-use Rattle.gts_standby.proofs.ScanLemmas.{drop_front, or_else_read, reach_on, sealed_piece}
+use Rattle.gts_standby.proofs.ScanLemmas.{reach_on, sealed_piece}
 use Rattle.gts_standby.proofs.AddLemmas.{added_by, not_empty, some_text, no_begin}
-use Rattle.gts_standby.proofs.PutLemmas.{behind_it, begins_so, checkpoint_there}
+use Rattle.gts_standby.proofs.PutLemmas.{behind_it, begins_so, checkpoint_there, sealed_parts}
 use Rattle.gts_standby.proofs.FeedLemmas.{seals_one}
 use Rattle.gts_standby.proofs.TakeLemmas.{sound_header, stays, add_ends}
-use Rattle.std.proofs.lemmas.Grind.{common_steps}
+pub use Rattle.gts_standby.proofs.TakeLemmas.{come_by}
 
 -- ---- records that are added
 
@@ -76,7 +71,7 @@ add_front d (suc n) m before s gate at p more long =
         ∙ ap (added_by d (m - 1) before s gate at (p ++ more)) found.0 in (
           on.0,
           ap (λ (t : Taken). t.records) one
-              ∙ ap (λ (l : List ℕ). r ∷ (on_with (m - 1) r l).records) (drop_front size p more found.1)
+              ∙ ap (λ (l : List ℕ). r ∷ (on_with (m - 1) r l).records) (drop-append-le size p more found.1)
               ∙ ap (λ (l : List Record). r ∷ l) on.1,
         )
 
@@ -104,113 +99,66 @@ piece_more v before p more size last is = by_sealed (sealed_at v before p) refl 
           found_fits_there v before p r size found (let e : size ≡ length (record_text r) + seal_size v = omega (arith, at) in e),
         )
 
--- the bytes at a place are those of the whole
-head_more : (text p more : List ℕ) (at : ℕ) → at + length text ≤ length p → or_else text p at ≡ or_else text (p ++ more) at
-head_more text p more at long = grind (arith, common_steps, or_else_read)
-
 -- a place that is reached in a front is reached in the whole
 reach_more : (limit : ℕ) (p more : List ℕ) (at size k : ℕ) → reach limit p at size ≡ Behind k → (reach limit (p ++ more) at size ≡ Behind k) × (at + size ≤ length p)
 reach_more limit p more at size k is = grind (arith, common_steps, ltb-false, reach_on)
 
-bulletin_more : (limit : ℕ) (p more : List ℕ) (at k : ℕ) → behind_bulletin limit p at ≡ Behind k → behind_bulletin limit (p ++ more) at ≡ Behind k
-bulletin_more limit p more at k is = by_size (bulletin_size (or_else least_bulletin p at)) refl is
+one_more : (listed : Listed) (limit : ℕ) (p more : List ℕ) (at k : ℕ) → behind_one listed limit p at ≡ Behind k → behind_one listed limit (p ++ more) at ≡ Behind k
+one_more listed limit p more at k is = by_size (listed_size listed (drop at p)) refl is
   where
-    by_test : (b : Bool) (head : List ℕ) (size : ℕ) → cond b (Some (16 + number_at head 12)) None ≡ Some size → 16 ≤ size
-    by_test true head size e = let whole : 16 + number_at head 12 ≡ size = cc e in omega (arith, whole)
-    by_test false head size e = absurd (cc e)
-
-    by_size : (o : Option ℕ) → bulletin_size (or_else least_bulletin p at) ≡ o → reach_found limit p at o ≡ Behind k → behind_bulletin limit (p ++ more) at ≡ Behind k
+    by_size : (o : Option ℕ) → listed_size listed (drop at p) ≡ o → reach_found limit p at o ≡ Behind k → behind_one listed limit (p ++ more) at ≡ Behind k
     by_size None e is = absurd (cc is)
     by_size (Some size) e is =
         let on = reach_more limit p more at size k is in
-        let same = head_more least_bulletin p more at (omega (arith, on.1, by_test _ (or_else least_bulletin p at) size e)) in
-        ap (λ (h : List ℕ). reach_found limit (p ++ more) at (bulletin_size h)) (sym same) ∙ ap (reach_found limit (p ++ more) at) e ∙ on.0
+        let low = listed_low listed (drop at p) size e in
+        ap (λ (l : List ℕ). reach_found limit (p ++ more) at (listed_size listed l)) (drop-append-le at p more (omega (arith, on.1)))
+        ∙ ap (reach_found limit (p ++ more) at) (listed_more listed (drop at p) more (omega (arith, length-drop at p, on.1, low)) ∙ e) ∙ on.0
 
-circuit_more : (limit : ℕ) (p more : List ℕ) (at k : ℕ) → behind_circuit limit p at ≡ Behind k → behind_circuit limit (p ++ more) at ≡ Behind k
-circuit_more limit p more at k is =
-    let size : ℕ = circuit_size (or_else (replicate 16 0) p at) in
-    let on = reach_more limit p more at size k is in
-    let same = head_more (replicate 16 0) p more at (omega (arith, on.1)) in
-    ap (λ (h : List ℕ). reach limit (p ++ more) at (circuit_size h)) (sym same) ∙ on.0
-
-then_more : (one other : Reached) (next further : ℕ → Reached) (k : ℕ) → ((j : ℕ) → one ≡ Behind j → (other ≡ Behind j) × (next j ≡ Behind k → further j ≡ Behind k))
-    → and_then one next ≡ Behind k → and_then other further ≡ Behind k
-then_more Short other next further k so is = absurd (cc is)
-then_more Bad other next further k so is = absurd (cc is)
-then_more (Behind j) other next further k so is = let on = so j refl in ap (λ (r : Reached). and_then r further) on.0 ∙ on.1 is
+reached_by : (one : Reached) (next : ℕ → Reached) (k : ℕ) → and_then one next ≡ Behind k → (j : ℕ) × (one ≡ Behind j) × (next j ≡ Behind k)
+reached_by Short next k is = absurd (cc is)
+reached_by Bad next k is = absurd (cc is)
+reached_by (Behind j) next k is = (j, refl, is)
 
 all_more : (one other : ℕ → Reached) → ((at k : ℕ) → one at ≡ Behind k → other at ≡ Behind k) → (count at k : ℕ) → behind_all one count at ≡ Behind k → behind_all other count at ≡ Behind k
 all_more one other so zero at k is = is
 all_more one other so (suc n) at k is =
-    then_more (one at) (other at) (behind_all one n) (behind_all other n) k (λ j e. (so at j e, all_more one other so n j k)) is
+    let first = reached_by (one at) (behind_all one n) k is in
+    ap (λ (r : Reached). and_then r (behind_all other n)) (so at first.0 first.1) ∙ all_more one other so n first.0 k first.2
 
 counted_more : (limit : ℕ) (p more : List ℕ) (bulletins circuits k : ℕ) → behind_counted limit p bulletins circuits ≡ Behind k → behind_counted limit (p ++ more) bulletins circuits ≡ Behind k
 counted_more limit p more bulletins circuits k is =
-    then_more (reach limit p 0 20) (reach limit (p ++ more) 0 20)
-    (λ at. and_then (behind_all (behind_bulletin limit p) bulletins at) (λ behind. behind_all (behind_circuit limit p) circuits behind))
-    (λ at. and_then (behind_all (behind_bulletin limit (p ++ more)) bulletins at) (λ behind. behind_all (behind_circuit limit (p ++ more)) circuits behind)) k
-    (λ j e. (
-      (reach_more limit p more 0 20 j e).0,
-      then_more (behind_all (behind_bulletin limit p) bulletins j) (behind_all (behind_bulletin limit (p ++ more)) bulletins j)
-          (λ behind. behind_all (behind_circuit limit p) circuits behind) (λ behind. behind_all (behind_circuit limit (p ++ more)) circuits behind) k
-          (λ i f. (
-            all_more (behind_bulletin limit p) (behind_bulletin limit (p ++ more)) (bulletin_more limit p more) bulletins j i f,
-            all_more (behind_circuit limit p) (behind_circuit limit (p ++ more)) (circuit_more limit p more) circuits i k,
-          )),
-    )) is
+    let listed : List ℕ → ℕ → Reached = λ l at. and_then (behind_all (behind_one Bulletin limit l) bulletins at) (behind_all (behind_one Circuit limit l) circuits) in
+    let front = reached_by (reach limit p 0 FRONT) (listed p) k is in
+    let first = reached_by (behind_all (behind_one Bulletin limit p) bulletins front.0) (behind_all (behind_one Circuit limit p) circuits) k front.2 in
+    ap (λ (r : Reached). and_then r (listed (p ++ more))) (reach_more limit p more 0 FRONT front.0 front.1).0
+    ∙ ap (λ (r : Reached). and_then r (behind_all (behind_one Circuit limit (p ++ more)) circuits))
+    (all_more (behind_one Bulletin limit p) (behind_one Bulletin limit (p ++ more)) (one_more Bulletin limit p more) bulletins front.0 first.0 first.1)
+    ∙ all_more (behind_one Circuit limit p) (behind_one Circuit limit (p ++ more)) (one_more Circuit limit p more) circuits first.0 k first.2
 
-front_there : (limit : ℕ) (p : List ℕ) (bulletins circuits k : ℕ) → behind_counted limit p bulletins circuits ≡ Behind k → 20 ≤ length p
+front_there : (limit : ℕ) (p : List ℕ) (bulletins circuits k : ℕ) → behind_counted limit p bulletins circuits ≡ Behind k → FRONT ≤ length p
 front_there limit p bulletins circuits k is = grind (arith, common_steps, reach_more)
 
 reached_more : (limit : ℕ) (p more : List ℕ) (k : ℕ) → behind_checkpoint limit p ≡ Behind k → behind_checkpoint limit (p ++ more) ≡ Behind k
-reached_more limit p more k is = by_letter (starts_with nat_eq (or_else least_front p 0) (codes "C" ++ replicate 3 0)) refl is
+reached_more limit p more k is = by_counts (front_counts p) refl is
   where
-    by_letter : (b : Bool) → starts_with nat_eq (or_else least_front p 0) (codes "C" ++ replicate 3 0) ≡ b
-        → cond b (behind_counted limit p (number_at (or_else least_front p 0) 16) (number_at (or_else least_front p 0) 4)) Bad ≡ Behind k → behind_checkpoint limit (p ++ more) ≡ Behind k
-    by_letter false e is = absurd (cc is)
-    by_letter true e is =
-        let front : List ℕ = or_else least_front p 0 in
-        let low = front_there limit p (number_at front 16) (number_at front 4) k is in
-        let same = head_more least_front p more 0 (omega (arith, low)) in
-        ap (behind_lists limit (p ++ more)) (sym same)
-        ∙ ap (λ (b : Bool). cond b (behind_counted limit (p ++ more) (number_at front 16) (number_at front 4)) Bad) e
-        ∙ counted_more limit p more (number_at front 16) (number_at front 4) k is
-
-abbrev checkpoint_by : Version → List ℕ → List ℕ → Reached → Piece
-checkpoint_by v before bytes reached = elim reached as (λ _. Piece) [
-  | Short ↦ Cut
-  | Bad ↦ Broken
-  | Behind size ↦
-      cond (nat_lt (length bytes) (size + seal_size v)) Cut
-      (cond (is_sealed v before (take size bytes) bytes) (Sealed (size + seal_size v) (seal v before (take size bytes))) Broken)
-]
+    by_counts : (o : Option (ℕ × ℕ)) → front_counts p ≡ o → behind_front limit p o ≡ Behind k → behind_checkpoint limit (p ++ more) ≡ Behind k
+    by_counts None e is = absurd (cc is)
+    by_counts (Some counts) e is =
+        ap (behind_front limit (p ++ more)) (front_more p more (front_there limit p counts.1 counts.0 k is) ∙ e) ∙ counted_more limit p more counts.1 counts.0 k is
 
 -- so a checkpoint does
 checkpoint_more : (v : Version) (limit : ℕ) (before p more : List ℕ) (size : ℕ) (last : List ℕ) → checkpoint_piece v limit before p ≡ Sealed size last
     → (checkpoint_piece v limit before (p ++ more) ≡ Sealed size last) × (size ≤ length p)
-checkpoint_more v limit before p more size last is = by_reached (behind_checkpoint limit p) refl is
-  where
-    by_seal : (k : ℕ) (b : Bool) → cond b (Sealed (k + seal_size v) (seal v before (take k p))) Broken ≡ Sealed size last → k + seal_size v ≡ size
-    by_seal k true e = cc e
-    by_seal k false e = absurd (cc e)
-
-    by_few : (k : ℕ) (cut : Bool) → behind_checkpoint limit p ≡ Behind k → nat_lt (length p) (k + seal_size v) ≡ cut
-        → cond cut Cut (cond (is_sealed v before (take k p) p) (Sealed (k + seal_size v) (seal v before (take k p))) Broken) ≡ Sealed size last
-        → (checkpoint_piece v limit before (p ++ more) ≡ Sealed size last) × (size ≤ length p)
-    by_few k true reached few e = absurd (cc e)
-    by_few k false reached few e =
-        let low : k + seal_size v ≤ length p = ltb-false (length p) (k + seal_size v) few in
-        let front : InFeed = record { bytes = p; is_all = false } in
-        let all : InFeed = record { bytes = p; is_all = true } in
-        let b : Bool = starts_with nat_eq (drop k p) (seal v before (take k p)) in
-        let there = sealed_piece v limit k before (p ++ more) more front b (reached_more limit p more k reached) (record { is = refl; all = λ e. absurd (cc e) }) low refl in
-        let here = sealed_piece v limit k before p [] all b reached (record { is = sym (append-nil p); all = λ _. refl }) low refl in
-        (there ∙ sym here ∙ is, omega (arith, low, by_seal k b (sym here ∙ is)))
-
-    by_reached : (r : Reached) → behind_checkpoint limit p ≡ r → checkpoint_by v before p r ≡ Sealed size last → (checkpoint_piece v limit before (p ++ more) ≡ Sealed size last) × (size ≤ length p)
-    by_reached Short reached e = absurd (cc e)
-    by_reached Bad reached e = absurd (cc e)
-    by_reached (Behind k) reached e = by_few k (nat_lt (length p) (k + seal_size v)) reached refl e
+checkpoint_more v limit before p more size last is =
+    let s = sealed_parts v limit before p size last is in
+    let k : ℕ = size - seal_size v in
+    let low : k + seal_size v ≤ length p = omega (arith, s.size_is, s.there) in
+    let front : InFeed = record { bytes = p; is_all = false } in
+    let all : InFeed = record { bytes = p; is_all = true } in
+    let b : Bool = starts_with nat_eq (drop k p) (seal v before (take k p)) in
+    let there = sealed_piece v limit k before (p ++ more) more front b (reached_more limit p more k s.reached) (record { is = refl; all = λ e. absurd (cc e) }) low refl in
+    let here = sealed_piece v limit k before p [] all b s.reached (record { is = sym (append-nil p); all = λ _. refl }) low refl in
+    (there ∙ sym here ∙ is, s.there)
 
 abbrev pub first_by : Version → ℕ → List ℕ → List ℕ → Bool → Piece
 first_by v limit before bytes b = cond b (checkpoint_piece v limit before bytes) (record_piece v before bytes)
@@ -253,7 +201,7 @@ compare_front v one other more so (own ∷ rest) before index at p =
     let part : Taken = compare_all v one rest own (index + 1) (at + size) (drop size p) in (
       on.0,
       compared_front index own last part (compare_all v other rest own (index + 1) (at + size) (drop size (p ++ more)))
-          (subst (λ (l : List ℕ). AddsFront part (compare_all v other rest own (index + 1) (at + size) l)) (sym (drop_front size p more on.1))
+          (subst (λ (l : List ℕ). AddsFront part (compare_all v other rest own (index + 1) (at + size) l)) (sym (drop-append-le size p more on.1))
           (compare_front v one other more so rest own (index + 1) (at + size) (drop size p))),
     ))
 
@@ -284,7 +232,7 @@ begin_front d size fed_seal p more limit here there low =
         let long : length (drop size p) + length more ≤ length (p ++ more) = omega (arith, length-drop size p, length-append p more) in
         let front = add_front d (length p) (length (p ++ more)) fed_last (begun n) gate (40 + size) (drop size p) more long in
         AddsPart front.0 (sym (ap (λ (t : Taken). t.begins) whole))
-        (ap (λ (t : Taken). t.records) whole ∙ ap (λ (l : List ℕ). (add_all written d (length (p ++ more)) fed_last (begun n) gate (40 + size) l).records) (drop_front size p more low) ∙ front.1)
+        (ap (λ (t : Taken). t.records) whole ∙ ap (λ (l : List ℕ). (add_all written d (length (p ++ more)) fed_last (begun n) gate (40 + size) l).records) (drop-append-le size p more low) ∙ front.1)
 
 -- where the journal begins with the checkpoint
 begun_front : (d : Directory) (p more : List ℕ) → d.limit < 256 ^ 4 → AddsFront (begun_taken d p) (begun_taken d (p ++ more))
@@ -391,7 +339,7 @@ records_front d s gate last (own ∷ rest) p more limit first = by_found (first_
     by_same size fed true low =
         let part : Taken = on size p in
         let front : AddsFront part (on size (p ++ more)) =
-        subst (λ (l : List ℕ). AddsFront part (compare_all written behind rest own 1 (40 + size) l)) (sym (drop_front size p more low))
+        subst (λ (l : List ℕ). AddsFront part (compare_all written behind rest own 1 (40 + size) l)) (sym (drop-append-le size p more low))
         (compare_front written behind behind more so rest own 1 (40 + size) (drop size p)) in
         subst (λ (t : Taken). AddsFront t (or_anew d s (begun_taken d (p ++ more)) (on size (p ++ more)))) (sym (stays_so size p))
         (subst (λ (t : Taken). AddsFront part t) (sym (stays_so size (p ++ more))) front)
@@ -434,7 +382,7 @@ taken_front d s gate last own fed more size limit first = by_same (agreeing head
         let same : agreeing header (fed ++ more) ≡ agreeing header fed = all_agree header (fed ++ more) more front low (record { is = refl; all = λ e. absurd (cc e) }) (inr there) in
         let whole : taken written d s gate last own (fed ++ more) ≡ take_records written d s gate last own (drop 40 (fed ++ more)) =
         ap (λ (k : ℕ). cond (k == 40) (take_records written d s gate last own (drop 40 (fed ++ more))) (cond (nat_le (length (fed ++ more)) k) (stopped Ends) (stopped (Breaks k)))) (same ∙ at) in
-        subst (λ (t : Taken). AddsFront part t) (sym (whole ∙ ap (take_records written d s gate last own) (drop_front 40 fed more there)))
+        subst (λ (t : Taken). AddsFront part t) (sym (whole ∙ ap (take_records written d s gate last own) (drop-append-le 40 fed more there)))
         (records_front d s gate last own (drop 40 fed) more limit first)
 
 -- a journal that has no records stands at its first gate, with the seal of its header
@@ -469,12 +417,6 @@ unread_there d files read opened none = by_letter (is_checkpoint bytes) refl
         by_steps (length bytes) (sym (opens_behind written d file bytes false (sound_header written d file bytes read opened) plain) ∙ opened)
         (sym (ap (seals_behind written first bytes) plain) ∙ none)
     by_letter true packed = absurd (let e : checkpoint_seals written first bytes (need_in (drop 41 bytes)) ≡ [] = sym (ap (seals_behind written first bytes) packed) ∙ none in cc e)
-
-abbrev pub come_by : Directory → Files → List ℕ → Read → Result Taken OpenFault
-come_by d files fed r = elim r as (λ _. Result Taken OpenFault) [
-  | Err fault ↦ Err fault
-  | Ok read ↦ Ok (taken written d read.0 (read.1 - 1) read.2 (own_seals d (selected_bytes files)) fed)
-]
 
 pub front_adds : (d : Directory) (files : Files) (fed more : List ℕ) (part whole : Taken) → length d.mark ≡ 32 → d.limit < 256 ^ 4 → comes_to d files fed ≡ Ok part → comes_to d files (fed ++ more) ≡ Ok whole
     → AddsFront part whole

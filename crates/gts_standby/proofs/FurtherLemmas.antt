@@ -1,10 +1,6 @@
 -- Whether a journal may begin anew with the checkpoint of a feed.
-use Rattle.std.proofs.Common.{◌≡◌, ℕ, Bool, false, List, [], ◌∷◌, Some, None, refl, sym, ap, not, ◌||◌, map, nat_lt, zip}
-use Rattle.gts_standby.specs.Cited.{Breaks, Directory, FindsFurther, HasRead, InFeed, Need, State, Taken, begun_taken, circuit_need_of, is_behind, is_further, list_any, need, stopped}
-use Rattle.gts_event.specs.declared.values.CircuitNeed.{CircuitNeed}
+use Rattle.gts_standby.proofs.Cited.{◌≡◌, ℕ, Bool, false, List, [], ◌∷◌, Some, None, refl, sym, ap, not, ◌||◌, map, nat_lt, zip, Breaks, Directory, FindsFurther, HasRead, InFeed, Need, State, Taken, begun_taken, circuit_need_of, is_behind, is_further, list_any, need, stopped, CircuitNeed, common_steps, arith}
 use Rattle.gts_standby.proofs.FrontLemmas.{further_by}
-use Rattle.std.proofs.lemmas.Grind.{common_steps}
-use Rattle.std.proofs.Common.{arith}
 
 nothing_further : (d : Directory) (s : State) (t : Taken) → t.begins ≡ None → false ≡ is_further d s t
 nothing_further d s t none = sym (ap (further_by d s) none)

@@ -1,14 +1,7 @@
 -- Records of a feed are gathered behind a journal, and brought into it.
-use Rattle.std.proofs.Common.{◌≡◌, inl, inr, ℕ, ◌+◌, ◌<◌, ◌≤◌, Bool, true, cond, List, [], ◌∷◌, ◌++◌, length, Option, Some, refl, sym, ap, subst, ◌∙◌, arith, length-append}
-use Rattle.std.proofs.lemmas.List.{map-append}
-use Rattle.gts_standby.specs.Cited.{AreNext, Breaks, Call, CanGather, Core, Directory, Ends, Feed, Gathered, Gathering, Gathers, HasAppendedBlock, HasBrought, HasGatheredOne, HoldsAt, HoldsBehind, InFeed, InHand, IsBlock, IsGathered, IsGathering, IsJudged, IsKept, MayBring, MayHaveBrought, ReadsToOneOf, Record, StandsBehind, StandsFor, State, StopsAs, Version, admits, after, after_records, beyond_block, chain_text, closed_gate, event_of_record, gate_behind, held, may_be_cut, no_records, read_at, read_with, record_size, record_text, seal, sealed_at, stopped, texts_of, written}
-use Rattle.gts_traits.proofs.LawLemmas.{started}
-use Rattle.gts_record.proofs.LawLemmas.{last_seal-append}
-use Rattle.gts_journal.proofs.LawLemmas.{gathered_block, records_more, next_none, next_more, batch_stands}
-use Rattle.gts_recovery.proofs.KeptLemmas.{kept_on}
+use Rattle.gts_standby.proofs.Cited.{◌≡◌, inl, inr, ℕ, ◌+◌, ◌<◌, ◌≤◌, Bool, true, cond, List, [], ◌∷◌, ◌++◌, length, Option, Some, refl, sym, ap, subst, ◌∙◌, arith, length-append, map-append, AreNext, Breaks, Call, CanGather, Core, Directory, Ends, Feed, Gathered, Gathering, Gathers, HasAppendedBlock, HasBrought, HasGatheredOne, HoldsAt, HoldsBehind, InFeed, InHand, IsBlock, IsGathered, IsGathering, IsJudged, IsKept, MayBring, MayHaveBrought, ReadsToOneOf, Record, StandsBehind, StandsFor, State, StopsAs, Version, admits, after, after_records, beyond_block, chain_text, closed_gate, event_of_record, gate_behind, held, may_be_cut, no_records, read_at, read_with, record_size, record_text, seal, sealed_at, stopped, texts_of, written, started, last_seal-append, gathered_block, records_more, next_none, next_more, batch_stands, kept_on, common_steps}
 use Rattle.gts_standby.proofs.AddLemmas.{whole_uncut}
 use Rattle.gts_standby.proofs.ReadLemmas.{images_read}
-use Rattle.std.proofs.lemmas.Grind.{common_steps}
 
 -- ---- what was gathered
 

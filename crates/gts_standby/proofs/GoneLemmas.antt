@@ -1,13 +1,9 @@
 -- So many records of a feed were added to a journal, and so many gathered behind it.
-use Rattle.std.proofs.Common.{◌≡◌, inl, inr, ℕ, ◌+◌, ◌-◌, ◌≤◌, cond, List, [], ◌∷◌, ◌++◌, length, drop, Option, Some, None, Ok, refl, sym, ap, subst, ◌∙◌, arith, length-append, length-drop}
-use Rattle.std.proofs.lemmas.List.{append-nil, append_assoc}
-use Rattle.gts_standby.specs.Cited.{Breaks, Call, Core, Directory, DiskFault, Done, EachSince, Ends, EndsAs, Feed, Files, FollowEnd, Gathered, Gathering, GathersNone, HasAdded, HasBrought, HasGatheredOne, HasRead, HoldsAt, HoldsBehind, InFeed, InHand, IsEnd, IsFedEnd, IsFinished, MayBring, MayHaveBrought, Need, NoMemory, OpensTo, OpensWithin, Outside, ReadsToOneOf, Record, SaidSince, SourceFault, StandsFor, State, StopsAt, Taken, Version, add_all, adding, after, after_records, chain_text, closed_gate, event_of_record, files_read, gate_behind, last_seal, may_be_cut, no_records, open_gate, read_after, read_at, read_begun, read_behind, read_with, record_behind, record_size, record_text, said_by, seal, sealed, seen, start_of, stopped, texts_of, written}
-use Rattle.gts_traits.proofs.LawLemmas.{started, joined}
-use Rattle.gts_record.proofs.LawLemmas.{length-sealed}
+use Rattle.gts_standby.proofs.Cited.{◌≡◌, inl, inr, ℕ, ◌+◌, ◌-◌, ◌≤◌, cond, List, [], ◌∷◌, ◌++◌, length, drop, Option, Some, None, Ok, refl, sym, ap, subst, ◌∙◌, arith, length-append, length-drop, append-nil, Breaks, Call, Core, Directory, DiskFault, Done, EachSince, Ends, EndsAs, Feed, Files, FollowEnd, Gathered, Gathering, GathersNone, HasAdded, HasBrought, HasGatheredOne, HasRead, HoldsAt, HoldsBehind, InFeed, InHand, IsEnd, IsFedEnd, IsFinished, MayBring, MayHaveBrought, Need, NoMemory, OpensTo, OpensWithin, Outside, ReadsToOneOf, Record, SaidSince, SourceFault, StandsFor, State, StopsAt, Taken, Version, add_all, adding, after, after_records, chain_text, closed_gate, event_of_record, files_read, gate_behind, last_seal, may_be_cut, no_records, open_gate, read_after, read_at, read_begun, read_behind, read_with, record_behind, record_size, record_text, said_by, seal, sealed, seen, start_of, stopped, texts_of, written, started, joined, length-sealed, after_records-append}
+use Rattle.std.proofs.lemmas.List.{append_assoc}
 use Rattle.gts_standby.proofs.AddLemmas.{next_is, read_now, opened_now, no_begin, not_empty, some_text, one_step, no_step}
 use Rattle.gts_standby.proofs.ReadLemmas.{as_before, with_front, images_read}
 use Rattle.gts_standby.proofs.GatherLemmas.{gate_on, ok, seal_on, state_on, held_one, brought_holds}
-use Rattle.gts_opening.proofs.LawLemmas.{after_records-append}
 
 -- ---- records behind records
 

@@ -1,10 +1,5 @@
 -- The header of a feed.
-use Rattle.std.proofs.Common.{◌≡◌, ◌≢◌, ◌⊎◌, ℕ, suc, ◌<◌, ◌≤◌, Bool, true, cond, List, [], ◌∷◌, ◌++◌, length, drop, refl, sym, ap, subst, ◌∙◌, arith, ◌==◌, nat_le}
-use Rattle.std.proofs.lemmas.Bool.{ne_eqb}
-use Rattle.std.proofs.lemmas.Bool.Decides.{nat_tests}
-use Rattle.std.proofs.lemmas.List.{append-nil}
-use Rattle.gts_standby.specs.Cited.{Breaks, Done, Ends, Feed, HasRead, InFeed, StopsAt, Taken, agreeing, by_header, stopped}
-use Rattle.std.proofs.lemmas.Grind.{common_steps}
+use Rattle.gts_standby.proofs.Cited.{◌≡◌, ◌≢◌, ◌⊎◌, ℕ, suc, ◌<◌, ◌≤◌, Bool, true, cond, List, [], ◌∷◌, ◌++◌, length, drop, refl, sym, ap, subst, ◌∙◌, arith, ◌==◌, nat_le, ne_eqb, nat_tests, append-nil, Breaks, Done, Ends, Feed, HasRead, InFeed, StopsAt, Taken, agreeing, by_header, stopped, common_steps}
 
 -- no more agree than there are
 pub agreeing-low : (xs ys : List ℕ) → agreeing xs ys ≤ length ys

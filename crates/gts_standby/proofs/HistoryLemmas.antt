@@ -1,19 +1,11 @@
 -- What the feed of a journal comes to beside one that has no records.
-use Rattle.std.proofs.Common.{◌≡◌, ℕ, zero, suc, ◌+◌, ◌-◌, ◌^◌, ◌<◌, ◌≤◌, Bool, true, false, cond, List, [], ◌∷◌, ◌++◌, length, take, drop, Some, None, Ok, Err, nat_eq, nat_lt, refl, sym, ap, subst, ◌∙◌, arith, length-append, ◌==◌}
-use Rattle.gts_standby.specs.Cited.{Accept, AddsFront, AddsNothing, AddsPart, Damaged, Directory, Drew, Ends, Files, LeadsTo, Read, Record, State, Taken, add_all, adding, admits, after, after_records, agreeing, comes_to, empty, entry_at, event_of_record, feed, feed_at, feed_behind, file_opens, files_read, first_seal, header_fault, is_checkpoint, is_checkpoint_fed, is_older, magic, own_seals, pointwise, read_behind, record_behind, record_size, record_text, records_at, same_text, seal, sealed, sealed_at, selected, selected_bytes, starts_with, take_records, taken, written}
-use Rattle.std.proofs.lemmas.Bool.Decides.{nat_tests}
-use Rattle.std.proofs.lemmas.List.{drop_all}
-use Rattle.gts_record.proofs.LawLemmas.{length-sealed, sealed_at-found, sealed_fits}
-use Rattle.gts_opening.proofs.LawLemmas.{magic_size, after_records-append}
-use Rattle.gts_journal.proofs.LawLemmas.{opens_behind, was_found, refuses_one}
+use Rattle.gts_standby.proofs.Cited.{◌≡◌, ℕ, zero, suc, ◌+◌, ◌-◌, ◌^◌, ◌<◌, ◌≤◌, Bool, true, false, cond, List, [], ◌∷◌, ◌++◌, length, take, drop, Some, None, Ok, Err, nat_eq, nat_lt, refl, sym, ap, subst, ◌∙◌, arith, length-append, ◌==◌, Accept, AddsFront, AddsNothing, AddsPart, Damaged, Directory, Drew, Ends, Files, LeadsTo, Read, Record, State, Taken, add_all, adding, admits, after, after_records, agreeing, comes_to, empty, entry_at, event_of_record, feed, feed_at, feed_behind, file_opens, files_read, first_seal, header_fault, is_checkpoint, is_checkpoint_fed, is_older, magic, own_seals, pointwise, read_behind, record_behind, record_size, record_text, records_at, same_text, seal, sealed, sealed_at, selected, selected_bytes, starts_with, take_records, taken, written, nat_tests, drop-append-le, drop_all, length-sealed, sealed_at-found, sealed_fits, magic_size, after_records-append, opens_behind, was_found, refuses_one, common_steps}
 use Rattle.gts_standby.proofs.FeedLemmas.{feed_one, feed_none, at_entry, IsEnd, IsRecord}
 use Rattle.gts_standby.proofs.FirstLemmas.{starts, fault_by}
 use Rattle.gts_standby.proofs.HeaderLemmas.{header_on}
-use Rattle.gts_standby.proofs.ScanLemmas.{drop_front}
 use Rattle.gts_standby.proofs.AddLemmas.{added_by, some_text, no_begin}
 use Rattle.gts_standby.proofs.TakeLemmas.{sound_header}
 use Rattle.gts_standby.proofs.FrontLemmas.{behind_by, records_by, come_by, unread_there, front_adds}
-use Rattle.std.proofs.lemmas.Grind.{common_steps}
 
 -- taken to its end, with records that lead from what a journal reads to on to this
 abbrev pub Comes : Directory → State × ℕ × List ℕ → State × ℕ × List ℕ → Taken → Type 0
@@ -27,7 +19,7 @@ read_state d y (r ∷ rs) = read_state d (after d y.0 (event_of_record r), y.1 +
 -- ---- the records of a feed
 
 pub drop_text : (text rest : List ℕ) (k : ℕ) → k ≡ length text → drop k (text ++ rest) ≡ rest
-drop_text text rest k is = drop_front k text rest (omega (arith, is)) ∙ ap (λ (l : List ℕ). l ++ rest) (drop_all k text (omega (arith, is)))
+drop_text text rest k is = drop-append-le k text rest (omega (arith, is)) ∙ ap (λ (l : List ℕ). l ++ rest) (drop_all k text (omega (arith, is)))
 
 nothing_fed : (d : Directory) (m : ℕ) (before : List ℕ) (s : State) (gate at : ℕ) → Comes d (s, gate + 1, before) (s, gate + 1, before) (add_all written d m before s gate at [])
 nothing_fed d zero before s gate at = (refl, refl)

@@ -1,3 +1,4 @@
+mod Cited
 pub mod ExitLemmas
 pub mod SayLemmas
 pub mod FeedLemmas

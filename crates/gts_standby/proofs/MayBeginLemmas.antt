@@ -1,14 +1,6 @@
 -- Whether bytes may begin a record, by its first bytes.
-use Rattle.std.proofs.Common.{◌≡◌, ℕ, ◌^◌, ◌<◌, ◌≤◌, Bool, true, false, cond, List, [], ◌∷◌, ◌++◌, length, take, drop, replicate, Option, Some, None, nat_eq, refl, sym, ap, ◌∙◌, arith, is_some, option_map, codes, append_assoc, take-append-drop, length-drop, length-append}
-use Rattle.std.proofs.lemmas.List.{take_at, drop_at, append-nil, take_all, length-take, length-replicate}
-use Rattle.std.proofs.lemmas.Slice.{take-put_mid}
-use borrow.Rule.Slice.PartMut.{put_mid}
-use Rattle.gts_standby.specs.Cited.{Accept, An, Bi, Drew, Fx, Kind, LONGEST_BODY, Record, bytes_of, may_begin, number_in, or_else, record_text, starts_with}
-use Rattle.gts_record.specs.Record.{record_at}
-use Rattle.gts_frame.specs.Cited.{letters}
-use Rattle.gts_record.proofs.LawLemmas.{number_in-bytes_of, record_at-found, record_at-stands, found_fits}
+use Rattle.gts_standby.proofs.Cited.{◌≡◌, ℕ, ◌^◌, ◌<◌, ◌≤◌, Bool, true, false, cond, List, [], ◌∷◌, ◌++◌, length, take, drop, replicate, Option, Some, None, nat_eq, refl, sym, ap, ◌∙◌, arith, is_some, option_map, codes, append_assoc, take-append-drop, length-drop, length-append, take_at, drop_at, append-nil, take_all, length-take, length-replicate, take-put_mid, put_mid, Accept, An, Bi, Drew, Fx, Kind, LONGEST_BODY, Record, bytes_of, may_begin, number_in, or_else, record_text, starts_with, record_at, letters, number_in-bytes_of, record_at-found, record_at-stands, found_fits, length-or_else, common_steps}
 use Rattle.gts_standby.proofs.FedLemmas.{same_found}
-use Rattle.std.proofs.lemmas.Grind.{common_steps}
 
 -- ---- bytes that are filled up
 
@@ -20,22 +12,17 @@ abbrev zeros : List ℕ
 zeros = replicate LONGEST_BODY 0
 
 -- they are a head, and what stands behind it
-filled_up : (text bytes more : List ℕ) → bytes ++ drop (length bytes) text ++ more ≡ or_else text bytes 0 ++ (drop (length text) bytes ++ more)
+filled_up : (text bytes more : List ℕ) → bytes ++ drop (length bytes) text ++ more ≡ or_else text bytes ++ (drop (length text) bytes ++ more)
 filled_up [] [] more = refl
 filled_up [] (x ∷ bytes) more = ap (λ (l : List ℕ). l ++ more) (append-nil (x ∷ bytes))
 filled_up (t ∷ text) [] more = refl
 filled_up (t ∷ text) (x ∷ bytes) more = ap (λ (l : List ℕ). x ∷ l) (filled_up text bytes more)
 
-length-or_else : (text bytes : List ℕ) → length (or_else text bytes 0) ≡ length text
-length-or_else [] bytes = refl
-length-or_else (t ∷ text) [] = refl
-length-or_else (t ∷ text) (x ∷ bytes) = omega (arith, length-or_else text bytes)
-
 -- what stands behind it
 abbrev behind : Bool → List ℕ → List ℕ
 behind b bytes = drop (length (least b)) bytes ++ zeros
 
-may_filled : (bytes : List ℕ) (b : Bool) → starts_with nat_eq bytes (codes "D") ≡ b → is_some (record_at (or_else (least b) bytes 0 ++ behind b bytes)) ≡ may_begin bytes
+may_filled : (bytes : List ℕ) (b : Bool) → starts_with nat_eq bytes (codes "D") ≡ b → is_some (record_at (or_else (least b) bytes ++ behind b bytes)) ≡ may_begin bytes
 may_filled [] true is = absurd (cc is)
 may_filled [] false is = refl
 may_filled (x ∷ bytes) b is =
@@ -52,10 +39,10 @@ draw_size : (bytes : List ℕ) (q : Record) → starts_with nat_eq bytes (codes 
 draw_size bytes (Drew circuit position index) first found = refl
 draw_size bytes (Accept from kind position body) first found = grind (arith, common_steps, record_at-stands, found)
 
-pub draw_may : (bytes : List ℕ) → starts_with nat_eq bytes (codes "D") ≡ true → is_some (record_at (or_else (least true) bytes 0)) ≡ may_begin bytes
+pub draw_may : (bytes : List ℕ) → starts_with nat_eq bytes (codes "D") ≡ true → is_some (record_at (or_else (least true) bytes)) ≡ may_begin bytes
 draw_may [] first = absurd (cc first)
 draw_may (x ∷ bytes) first =
-    let head : List ℕ = or_else (least true) (x ∷ bytes) 0 in
+    let head : List ℕ = or_else (least true) (x ∷ bytes) in
     sym (same_found head (behind true (x ∷ bytes)) (λ q found. omega (arith, draw_size (head ++ behind true (x ∷ bytes)) q first found, length-or_else (least true) (x ∷ bytes)))) ∙ may_filled (x ∷ bytes) true first
 
 -- ---- an accepted bulletin
@@ -126,9 +113,9 @@ emptied : (head size : List ℕ) → length head ≡ 16 → length size ≡ 4 �
 emptied head size long four = grind (arith, common_steps, take_all, length-take, take-put_mid)
 
 -- the head of an accepted bulletin, and that of one without a body
-module _ (bytes : List ℕ) (k : ℕ) (other : starts_with nat_eq bytes (codes "D") ≡ false) (small : k < 256 ^ 4) (digits : bytes_of 4 k ≡ take 4 (drop 12 (or_else (least false) bytes 0))) where
+module _ (bytes : List ℕ) (k : ℕ) (other : starts_with nat_eq bytes (codes "D") ≡ false) (small : k < 256 ^ 4) (digits : bytes_of 4 k ≡ take 4 (drop 12 (or_else (least false) bytes))) where
   abbrev head : List ℕ
-  head = or_else (least false) bytes 0
+  head = or_else (least false) bytes
 
   abbrev front : List ℕ
   front = take 12 head
@@ -139,7 +126,7 @@ module _ (bytes : List ℕ) (k : ℕ) (other : starts_with nat_eq bytes (codes "
   other_front : starts_with nat_eq front (codes "D") ≡ false
   other_front = by_first bytes other
     where
-      by_first : (l : List ℕ) → starts_with nat_eq l (codes "D") ≡ false → starts_with nat_eq (take 12 (or_else (least false) l 0)) (codes "D") ≡ false
+      by_first : (l : List ℕ) → starts_with nat_eq l (codes "D") ≡ false → starts_with nat_eq (take 12 (or_else (least false) l)) (codes "D") ≡ false
       by_first [] is = refl
       by_first (x ∷ l) is = is
 

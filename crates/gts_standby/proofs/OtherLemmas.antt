@@ -1,6 +1,5 @@
 -- Whether a feed has another record 0, by how it is answered.
-use Rattle.std.proofs.Common.{◌≡◌, ℕ, List, Result, Ok, Err, true, false, refl, sym, ◌∙◌}
-use Rattle.gts_standby.specs.Cited.{Diverged, Done, Feed, FollowEnd, InFeed, IsEnd, IsFedEnd, IsLater, IsOwnEnd, KeepsOther, Open, OpenFault, ReadsAll, is_other, open_end}
+use Rattle.gts_standby.proofs.Cited.{◌≡◌, ℕ, List, Result, Ok, Err, true, false, refl, sym, ◌∙◌, Diverged, Done, Feed, FollowEnd, InFeed, IsEnd, IsFedEnd, IsLater, IsOwnEnd, KeepsOther, Open, OpenFault, ReadsAll, is_other, open_end}
 use Rattle.gts_record.specs.declared.fault.OpenFault.TheVariants as opening
 
 pub fed_other : (answer : FollowEnd) → IsFedEnd answer → is_other answer ≡ false

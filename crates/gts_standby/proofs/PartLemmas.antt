@@ -1,9 +1,6 @@
 -- What the whole feed of a station's journal comes to beside a standby that has a first part of it.
-use Rattle.std.proofs.Common.{◌≡◌, ℕ, zero, suc, ◌+◌, ◌-◌, Bool, false, cond, List, ◌∷◌, ◌++◌, length, drop, Option, Some, None, Ok, refl, sym, ap, subst, ◌∙◌, arith, length-append}
+use Rattle.gts_standby.proofs.Cited.{◌≡◌, ℕ, zero, suc, ◌+◌, ◌-◌, Bool, false, cond, List, ◌∷◌, ◌++◌, length, drop, Option, Some, None, Ok, refl, sym, ap, subst, ◌∙◌, arith, length-append, Directory, Ends, Files, Need, Parts, Piece, Record, State, Taken, add_all, after, begun_taken, by_piece, comes_to, compare_all, compare_first, compared, empty, entry_at, event_of_record, feed, feed_at, feed_behind, file_opens, files_read, first_seal, is_checkpoint, is_checkpoint_fed, is_other_first, magic, or_anew, own_seals, read_after, read_begun, read_behind, record_size, record_text, records_at, seal, sealed, sealed_at, seals_at, seals_behind, selected, selected_bytes, stopped, taken, written, length-sealed, sealed_at-found, sealed_fits, opens_behind, was_found, same_bytes}
 use Rattle.std.proofs.lemmas.List.{append_assoc}
-use Rattle.gts_standby.specs.Cited.{Directory, Ends, Files, Need, Parts, Piece, Record, State, Taken, add_all, after, begun_taken, by_piece, comes_to, compare_all, compare_first, compared, empty, entry_at, event_of_record, feed, feed_at, feed_behind, file_opens, files_read, first_seal, is_checkpoint, is_checkpoint_fed, is_other_first, magic, or_anew, own_seals, read_after, read_begun, read_behind, record_size, record_text, records_at, seal, sealed, sealed_at, seals_at, seals_behind, selected, selected_bytes, stopped, taken, written}
-use Rattle.gts_record.proofs.LawLemmas.{length-sealed, sealed_at-found, sealed_fits}
-use Rattle.gts_journal.proofs.LawLemmas.{opens_behind, was_found}
 use Rattle.gts_standby.proofs.FeedLemmas.{feed_one, feed_none, seals_one, seals_none, at_entry, IsEnd, IsRecord}
 use Rattle.gts_standby.proofs.FedLemmas.{piece_by}
 use Rattle.gts_standby.proofs.TakeLemmas.{sound_header, stays}
@@ -11,7 +8,6 @@ use Rattle.gts_standby.proofs.AddLemmas.{some_text, no_begin}
 use Rattle.gts_standby.proofs.FrontLemmas.{first_by, come_by}
 use Rattle.gts_standby.proofs.HistoryLemmas.{Comes, records_fed, drop_text, no_checkpoint, header_is}
 use Rattle.gts_standby.proofs.StationLemmas.{behind_header}
-use Rattle.gts_frame.proofs.LawLemmas.{same_bytes}
 
 -- taken to its end, behind nothing else, with records that lead from what a journal reads to on to this
 abbrev GoesTo : Directory → State × ℕ × List ℕ → State × ℕ × List ℕ → Taken → Type 0

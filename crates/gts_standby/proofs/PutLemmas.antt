@@ -1,12 +1,9 @@
 -- What a feed comes to that begins with a checkpoint, by the bytes that were read of it.
-use Rattle.std.proofs.Common.{◌≡◌, ℕ, ◌+◌, ◌-◌, ◌*◌, ◌^◌, ◌<◌, ◌≤◌, Bool, true, false, ◌&&◌, cond, nat_eq, nat_le, nat_lt, List, ◌++◌, length, take, drop, Some, refl, sym, ap, subst, ◌∙◌, arith, Option, None, IfSome, IfNone}
-use Rattle.gts_standby.specs.Cited.{Bad, BeginsWith, Behind, Breaks, Broken, Cut, Directory, Diverged, Done, Feed, FollowEnd, InHand, IsCheckpoint, IsEnd, IsPutEnd, Need, Open, Piece, Reached, Sealed, Short, SourceFault, Taken, Version, add_all, admits_checkpoint, begin_with, begun, begun_taken, behind_checkpoint, by_piece, checkpoint_piece, checkpoint_text, compacted_bytes, draw_size, due, first_seal, held, is_sealed, is_sound, need_in, need_of, same_text, seal, seal_size, starts_with, stopped, written}
-use Rattle.std.proofs.lemmas.Bool.{and_parts, and_from, leb-true, eqb-true, eq-eqb}
-use Rattle.std.proofs.lemmas.List.{length-take, take-append-drop, take-append-le}
-use Rattle.gts_event.specs.declared.values.Need as values
+use Rattle.gts_standby.proofs.Cited.{◌≡◌, ℕ, ◌+◌, ◌-◌, ◌^◌, ◌<◌, ◌≤◌, Bool, true, false, ◌&&◌, cond, nat_eq, nat_lt, List, ◌++◌, length, take, drop, Some, refl, sym, ap, subst, ◌∙◌, arith, Option, None, IfSome, IfNone, Bad, BeginsWith, Behind, Breaks, Broken, Cut, Directory, Diverged, Done, Feed, FollowEnd, InHand, IsCheckpoint, IsEnd, IsPutEnd, Need, Open, Piece, Reached, Sealed, Short, SourceFault, Taken, Version, add_all, admits_checkpoint, begin_with, begun, begun_taken, behind_checkpoint, by_piece, checkpoint_by, checkpoint_piece, checkpoint_text, compacted_bytes, first_seal, held, is_sealed, need_in, need_of, seal, seal_size, stopped, written, and_parts, and_from, eqb-true, eq-eqb, ltb-false, length-take, take-append-le, admitted, need_read, text_there, common_steps}
+use Rattle.std.proofs.lemmas.List.{take-append-drop}
 use Rattle.gts_opening.proofs.LawLemmas.{need_in-text, fits-sound}
-use Rattle.gts_checkpoint.proofs.ReadLemmas.{admitted, need_read}
-use Rattle.std.proofs.lemmas.Grind.{common_steps}
+use Rattle.gts_checkpoint.proofs.ReadLemmas.{may_begin}
+use Rattle.gts_event.specs.declared.values.Need as values
 
 -- ---- the ends of writing
 
@@ -28,31 +25,30 @@ none_found {X} {P} o none is = subst (λ (p : Option X). IfNone p P) is none
 
 -- ---- the piece
 
--- the seal stands behind so many bytes
-record StandsSealed (v : Version) (before fed : List ℕ) (size : ℕ) (text : ℕ) : Type 0 where
+-- so many bytes are the checkpoint, and its seal stands behind them
+pub record StandsSealed (v : Version) (limit : ℕ) (before fed : List ℕ) (size text : ℕ) : Type 0 where
   pub size_is : text + seal_size v ≡ size
+  pub there : size ≤ length fed
   pub stands : is_sealed v before (take text fed) fed ≡ true
+  pub reached : behind_checkpoint limit fed ≡ Behind text
 
-sealed_parts : (v : Version) (limit : ℕ) (before fed : List ℕ) (size : ℕ) (last : List ℕ) → checkpoint_piece v limit before fed ≡ Sealed size last → StandsSealed v before fed size (size - seal_size v)
-sealed_parts v limit before fed size last is = by_reached (behind_checkpoint limit fed) is
+pub sealed_parts : (v : Version) (limit : ℕ) (before fed : List ℕ) (size : ℕ) (last : List ℕ) → checkpoint_piece v limit before fed ≡ Sealed size last → StandsSealed v limit before fed size (size - seal_size v)
+sealed_parts v limit before fed size last is = by_reached (behind_checkpoint limit fed) refl is
   where
-    by_tests : (k : ℕ) (cut stands : Bool) → is_sealed v before (take k fed) fed ≡ stands → cond cut Cut (cond stands (Sealed (k + seal_size v) (seal v before (take k fed))) Broken) ≡ Sealed size last
-        → StandsSealed v before fed size (size - seal_size v)
-    by_tests k true stands s e = absurd (cc e)
-    by_tests k false false s e = absurd (cc e)
-    by_tests k false true s e =
+    by_tests : (k : ℕ) (cut stands : Bool) → behind_checkpoint limit fed ≡ Behind k → nat_lt (length fed) (k + seal_size v) ≡ cut → is_sealed v before (take k fed) fed ≡ stands
+        → cond cut Cut (cond stands (Sealed (k + seal_size v) (seal v before (take k fed))) Broken) ≡ Sealed size last → StandsSealed v limit before fed size (size - seal_size v)
+    by_tests k true stands reached few s e = absurd (cc e)
+    by_tests k false false reached few s e = absurd (cc e)
+    by_tests k false true reached few s e =
         let whole : k + seal_size v ≡ size = cc e in
         let at : k ≡ size - seal_size v = omega (arith, whole) in
-        subst (λ (m : ℕ). StandsSealed v before fed size m) at (record { size_is = whole; stands = s })
+        subst (λ (m : ℕ). StandsSealed v limit before fed size m) at
+        (record { size_is = whole; there = omega (arith, ltb-false (length fed) (k + seal_size v) few, whole); stands = s; reached = reached })
 
-    by_reached : (r : Reached) → elim r as (λ _. Piece) [
-      | Short ↦ Cut
-      | Bad ↦ Broken
-      | Behind k ↦ cond (nat_lt (length fed) (k + seal_size v)) Cut (cond (is_sealed v before (take k fed) fed) (Sealed (k + seal_size v) (seal v before (take k fed))) Broken)
-    ] ≡ Sealed size last → StandsSealed v before fed size (size - seal_size v)
-    by_reached Short e = absurd (cc e)
-    by_reached Bad e = absurd (cc e)
-    by_reached (Behind k) e = by_tests k (nat_lt (length fed) (k + seal_size v)) (is_sealed v before (take k fed) fed) refl e
+    by_reached : (r : Reached) → behind_checkpoint limit fed ≡ r → checkpoint_by v before fed r ≡ Sealed size last → StandsSealed v limit before fed size (size - seal_size v)
+    by_reached Short reached e = absurd (cc e)
+    by_reached Bad reached e = absurd (cc e)
+    by_reached (Behind k) reached e = by_tests k (nat_lt (length fed) (k + seal_size v)) (is_sealed v before (take k fed) fed) reached refl refl e
 
 -- it is that of the feed beside a journal of the directory
 pub piece_of : (d : Directory) (v : Version) (limit : ℕ) (mark before fed : List ℕ) (piece : Piece) → v ≡ written → limit ≡ d.limit → mark ≡ d.mark → held v before ≡ first_seal v mark
@@ -74,7 +70,7 @@ module _ (d : Directory) (fed bytes left : List ℕ) (size : ℕ) (last : List �
   abbrev count : ℕ
   count = size - seal_size written
 
-  parts : StandsSealed written first fed size count
+  parts : StandsSealed written d.limit first fed size count
   parts = sealed_parts written d.limit first fed size last piece
 
   front : take count fed ≡ take count bytes
@@ -110,23 +106,14 @@ module _ (d : Directory) (fed bytes left : List ℕ) (size : ℕ) (last : List �
   -- where none was
   pub checkpoint_there : (n : Need) → need_in fed ≡ n → (admits_checkpoint written d fed n && nat_eq (length (checkpoint_text n) + seal_size written) size) ≡ true → IsCheckpoint written d (take count bytes) n
   checkpoint_there n is e =
-      let text : List ℕ = checkpoint_text n in
-      let sealing : Bool = is_sealed written (first_seal written d.mark) text fed in
-      let both = and_parts (admits_checkpoint written d fed n) (nat_eq (length text + seal_size written) size) e in
-      let h1 = and_parts _ (nat_le (compacted_bytes written n + draw_size written * due (begun n)) d.limit) both.0 in
-      let h2 = and_parts (starts_with nat_eq fed text && sealing) (is_sound d n) h1.0 in
-      let h3 = and_parts (starts_with nat_eq fed text) sealing h2.0 in
-      let same : text ≡ take (length text) fed = same_text text (take (length text) fed) (sym h3.0) in
-      let whole : length text + seal_size written ≡ size = eqb-true (length text + seal_size written) size both.1 in
-      let at : count ≡ length text = omega (arith, whole) in
-      let begins : fed ≡ text ++ drop (length text) fed = sym (take-append-drop (length text) fed) ∙ ap (λ (l : List ℕ). l ++ drop (length text) fed) (sym same) in
-      let room = leb-true (compacted_bytes written n + draw_size written * due (begun n)) d.limit h1.1 in
-      let fits = fits-sound written d n h2.1 (omega (arith, limit, room)) in
+      let both = and_parts (admits_checkpoint written d fed n) (nat_eq (length (checkpoint_text n) + seal_size written) size) e in
+      let may = may_begin written d fed n both.0 in
+      let whole : length (checkpoint_text n) + seal_size written ≡ size = eqb-true (length (checkpoint_text n) + seal_size written) size both.1 in
       record {
-        text = sym front ∙ ap (λ (k : ℕ). take k fed) at ∙ sym same;
-        sound = h2.1;
-        free = sym (need_in-text n (drop (length text) fed) fits) ∙ ap need_in (sym begins) ∙ is;
-        room = room;
+        text = sym front ∙ text_there fed n count may.begins (omega (arith, whole));
+        sound = may.sound;
+        free = sym (need_in-text n may.begins.0 (fits-sound written d n may.sound (omega (arith, limit, may.room)))) ∙ ap need_in (sym may.begins.1) ∙ is;
+        room = may.room;
       }
 
   pub none_begins : ((n : Need) → IsCheckpoint written d (take count bytes) n → ⊥) → begun_taken d fed ≡ stopped (Breaks 40)

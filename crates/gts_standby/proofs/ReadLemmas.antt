@@ -1,9 +1,5 @@
 -- What the files of a journal read to, at each moment.
-use Rattle.std.proofs.Common.{◌≡◌, ◌⊎◌, inl, inr, ℕ, ◌+◌, ◌-◌, List, [], ◌∷◌, ◌++◌, length, Option, Some, None, Result, Ok, Err, refl, sym, ap, subst, ◌∙◌, arith, length-append}
-use Rattle.std.proofs.lemmas.List.{append-nil}
-use Rattle.gts_standby.specs.Cited.{AreNext, AsBefore, Call, Directory, EachSince, EndsAt, Files, Gathered, InHand, IsImage, LeavesAllOrNone, Need, OnlySyncs, OpensTo, OpensWithin, Outside, ReadsToOneOf, Record, StandsFor, State, Syncs, Taken, Tries, Version, WithFront, after, after_records, chain_text, closed_gate, event_of_record, file_opens, files_read, front_of, gate_after, last_seal, opened_part, read_at, read_begun, read_behind, record_size, record_text, said_by, seal, seen, start_of, texts_of, written}
-use Rattle.gts_traits.proofs.LawLemmas.{weaker, started, synced, said_is, synced_image}
-use Rattle.gts_journal.proofs.LawLemmas.{all_file, before_file, length-chain, open_selected, same_open, selects}
+use Rattle.gts_standby.proofs.Cited.{◌≡◌, ◌⊎◌, inl, inr, ℕ, ◌+◌, ◌-◌, List, [], ◌∷◌, ◌++◌, length, Option, Some, None, Result, Ok, Err, refl, sym, ap, subst, ◌∙◌, arith, length-append, append-nil, AreNext, AsBefore, Call, Directory, EachSince, EndsAt, Files, Gathered, InHand, IsImage, LeavesAllOrNone, Need, OnlySyncs, OpensTo, OpensWithin, Outside, ReadsToOneOf, Record, StandsFor, State, Syncs, Taken, Tries, Version, WithFront, after, after_records, chain_text, closed_gate, event_of_record, file_opens, files_read, front_of, gate_after, last_seal, opened_part, read_at, read_begun, read_behind, record_size, record_text, said_by, seal, seen, start_of, texts_of, written, weaker, started, synced, said_is, synced_image, all_file, before_file, length-chain, open_selected, same_open, selects}
 use Rattle.gts_standby.proofs.AddLemmas.{opened_need, read_now}
 
 -- ---- files that read to this open to its state

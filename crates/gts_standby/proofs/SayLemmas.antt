@@ -1,11 +1,6 @@
 -- What is said of a feed, piece by piece.
-use Rattle.std.proofs.Common.{◌≡◌, ℕ, ◌+◌, ◌-◌, ◌≤◌, List, [], ◌++◌, length, take, drop, Result, Ok, Err, refl, sym, subst, ap, ◌∙◌, arith, IsErr}
-use Rattle.std.proofs.Math.Seq.{take-add}
-use Rattle.std.proofs.lemmas.List.{append-nil, drop-drop, take_all}
-use Rattle.gts_standby.specs.Cited.{Call, SaysFront, SaysHere, Speaks, on}
-use Rattle.gts_traits.proofs.LawLemmas.{on-append}
-use Rattle.gts_traits.proofs.SayLemmas.{said_none, said_more, front_behind, front_more}
-use Rattle.std.proofs.lemmas.Grind.{common_steps}
+use Rattle.gts_standby.proofs.Cited.{◌≡◌, ℕ, ◌+◌, ◌-◌, ◌≤◌, List, [], ◌++◌, length, take, drop, Result, Ok, Err, refl, sym, subst, ap, ◌∙◌, arith, IsErr, take-add, append-nil, drop-drop, take_all, Call, SaysFront, SaysHere, Speaks, on, on-append, said_none, said_more, front_behind, common_steps}
+use Rattle.gts_traits.proofs.SayLemmas.{front_more}
 
 pub says_none : (calls : List Call) → SaysHere calls calls []
 says_none calls = record { only = said_none calls; stands = λ j stands. stands }

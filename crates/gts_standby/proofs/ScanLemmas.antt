@@ -1,36 +1,19 @@
 -- How long the checkpoint at the front of a feed is, by the bytes that were read ahead.
-use Rattle.std.proofs.Common.{◌≡◌, ◌⊎◌, ℕ, zero, suc, ◌+◌, ◌-◌, ◌<◌, ◌≤◌, Bool, true, cond, List, [], ◌∷◌, ◌++◌, length, take, drop, Result, Err, Some, replicate, refl, sym, ap, subst, arith, nat_lt, nat_eq, IsErrAnd}
-use Rattle.gts_standby.specs.Cited.{Bad, Behind, Breaks, Broken, Bulletin, Circuit, Cut, Diverged, Done, Ends, Feed, FindsPiece, FollowEnd, HasRead, InFeed, IsFedEnd, Listed, Open, Piece, Reached, Sealed, Short, StopsAs, StopsAt, Taken, Version, and_then, behind_all, behind_checkpoint, behind_listed, bulletin_size, by_piece, checkpoint_piece, circuit_size, is_sealed, least_bulletin, listed_size, or_else, reach, reach_found, seal, seal_size, starts_with}
+use Rattle.gts_standby.proofs.Cited.{◌≡◌, ◌⊎◌, ℕ, ◌+◌, ◌-◌, ◌<◌, ◌≤◌, Bool, true, cond, List, length, take, drop, Result, Err, sym, ap, subst, arith, nat_eq, IsErrAnd, Behind, Breaks, Broken, Diverged, Done, Ends, Feed, FindsPiece, FollowEnd, HasRead, InFeed, IsFedEnd, Listed, Open, Piece, Reached, Sealed, StopsAs, StopsAt, Taken, Version, and_then, behind_all, behind_checkpoint, by_piece, checkpoint_by, checkpoint_piece, front_counts, is_sealed, listed_size, reach, seal, seal_size, starts_with, le-ltb, nat_tests, drop-append-le, length-take, take-append-le, length-seal, front_more, listed_more, starts_front, common_steps}
 use Rattle.gts_standby.specs.Reading.{Reaches}
-use Rattle.std.proofs.lemmas.Bool.{le-ltb}
-use Rattle.std.proofs.lemmas.Bool.Decides.{nat_tests}
-use Rattle.std.proofs.lemmas.List.{length-take}
-use Rattle.gts_record.proofs.LawLemmas.{length-seal}
-use Rattle.gts_checkpoint.proofs.LawLemmas.{starts_front}
+use Rattle.std.proofs.lemmas.List.{length-drop}
 use Rattle.gts_standby.proofs.ExitLemmas.{returned}
 use Rattle.gts_standby.proofs.HeaderLemmas.{no_more}
-use Rattle.std.proofs.lemmas.Grind.{common_steps}
 
 -- ---- bytes of a front
 
-pub drop_front : (k : ℕ) (xs ys : List ℕ) → k ≤ length xs → drop k (xs ++ ys) ≡ drop k xs ++ ys
-drop_front zero xs ys low = refl
-drop_front (suc k) [] ys low = absurd (omega (arith, low))
-drop_front (suc k) (x ∷ xs) ys low = drop_front k xs ys (omega (arith, low))
+-- what is told by the first bytes is told by those of the feed
+pub front_read : (fed left : List ℕ) (ahead : InFeed) → HasRead fed ahead left → (ahead.is_all ≡ true) ⊎ (20 ≤ length ahead.bytes) → front_counts ahead.bytes ≡ front_counts fed
+front_read fed left ahead read enough = grind (arith, common_steps, no_more, front_more)
 
-pub take_front : (k : ℕ) (xs ys : List ℕ) → k ≤ length xs → take k (xs ++ ys) ≡ take k xs
-take_front zero xs ys low = refl
-take_front (suc k) [] ys low = absurd (omega (arith, low))
-take_front (suc k) (x ∷ xs) ys low = ap (λ (l : List ℕ). x ∷ l) (take_front k xs ys (omega (arith, low)))
-
-length_dropped : (k : ℕ) (xs : List ℕ) → k ≤ length xs → length (drop k xs) + k ≡ length xs
-length_dropped zero xs low = omega arith
-length_dropped (suc k) [] low = absurd (omega (arith, low))
-length_dropped (suc k) (x ∷ xs) low = omega (arith, length_dropped k xs (omega (arith, low)))
-
--- the bytes at a place are those of the feed
-pub or_else_read : (text fed left : List ℕ) (ahead : InFeed) (at : ℕ) → HasRead fed ahead left → (ahead.is_all ≡ true) ⊎ (at + length text ≤ length ahead.bytes) → or_else text ahead.bytes at ≡ or_else text fed at
-or_else_read text fed left ahead at read enough = grind (arith, common_steps, no_more, take_front, length_dropped, drop_front)
+pub size_read : (listed : Listed) (fed left : List ℕ) (ahead : InFeed) (at : ℕ) → HasRead fed ahead left → (ahead.is_all ≡ true) ⊎ (at + 16 ≤ length ahead.bytes)
+    → listed_size listed (drop at ahead.bytes) ≡ listed_size listed (drop at fed)
+size_read listed fed left ahead at read enough = grind (arith, common_steps, no_more, listed_more, length-drop, drop-append-le)
 
 -- ---- a place is reached
 
@@ -63,28 +46,7 @@ pub reaches_err : (answer : Result ℕ FollowEnd) (end : FollowEnd) (one other :
     → Reaches (Err end) one fed ahead unread → Reaches answer other fed ahead unread
 reaches_err answer end one other fed ahead unread failed same is = grind (arith, common_steps, returned, reaches_same)
 
--- ---- a bulletin or a circuit
-
-pub size_read : (listed : Listed) (fed left : List ℕ) (ahead : InFeed) (at : ℕ) → HasRead fed ahead left → (ahead.is_all ≡ true) ⊎ (at + 16 ≤ length ahead.bytes) → listed_size listed ahead.bytes at ≡ listed_size listed fed at
-size_read Bulletin fed left ahead at read enough = ap bulletin_size (or_else_read least_bulletin fed left ahead at read enough)
-size_read Circuit fed left ahead at read enough = ap (λ (head : List ℕ). Some (circuit_size head)) (or_else_read (replicate 16 0) fed left ahead at read enough)
-
-pub reach_listed : (listed : Listed) (limit : ℕ) (fed : List ℕ) (at : ℕ) → behind_listed listed limit fed at ≡ reach_found limit fed at (listed_size listed fed at)
-reach_listed Bulletin limit fed at = refl
-reach_listed Circuit limit fed at = refl
-
--- ---- what was read is enough
-
 -- ---- the checkpoint with its seal
-
-abbrev checkpoint_by : Version → List ℕ → List ℕ → Reached → Piece
-checkpoint_by v before bytes reached = elim reached as (λ _. Piece) [
-  | Short ↦ Cut
-  | Bad ↦ Broken
-  | Behind size ↦
-      cond (nat_lt (length bytes) (size + seal_size v)) Cut
-      (cond (is_sealed v before (take size bytes) bytes) (Sealed (size + seal_size v) (seal v before (take size bytes))) Broken)
-]
 
 pub finds_err : (answer : Result (ℕ × List ℕ) FollowEnd) (end : FollowEnd) (v : Version) (at : ℕ) (piece : Piece) (fed : List ℕ) (ahead : InFeed) (left : List ℕ) → IsErrAnd answer (λ e. e ≡ end)
     → ((next : ℕ → List ℕ → Taken) → StopsAs end (by_piece at piece next) left) → FindsPiece answer v at piece fed ahead left
@@ -108,10 +70,10 @@ seal_cut v limit size before fed left ahead reached read enough few next = grind
 pub sealed_same : (v : Version) (size : ℕ) (before fed left : List ℕ) (ahead : InFeed) → HasRead fed ahead left → size + seal_size v ≤ length ahead.bytes
     → is_sealed v before (take size fed) fed ≡ starts_with nat_eq (drop size ahead.bytes) (seal v before (take size ahead.bytes))
 sealed_same v size before fed left ahead read long =
-    grind (arith, common_steps, take_front, length-take, drop_front, starts_front, length-seal, length_dropped)
+    grind (arith, common_steps, take-append-le, length-take, drop-append-le, starts_front, length-seal, length-drop)
 
 -- with another seal it is broken, with its own it is a piece
 pub sealed_piece : (v : Version) (limit size : ℕ) (before fed left : List ℕ) (ahead : InFeed) (b : Bool) → behind_checkpoint limit fed ≡ Behind size → HasRead fed ahead left → size + seal_size v ≤ length ahead.bytes
     → starts_with nat_eq (drop size ahead.bytes) (seal v before (take size ahead.bytes)) ≡ b
     → checkpoint_piece v limit before fed ≡ cond b (Sealed (size + seal_size v) (seal v before (take size ahead.bytes))) Broken
-sealed_piece v limit size before fed left ahead b reached read long is = grind (arith, common_steps, take_front, le-ltb, sealed_same)
+sealed_piece v limit size before fed left ahead b reached read long is = grind (arith, common_steps, take-append-le, le-ltb, sealed_same)

@@ -1,13 +1,10 @@
 -- What is said of a feed, record by record.
-use Rattle.std.proofs.Common.{◌≡◌, inl, inr, ℕ, ◌+◌, ◌-◌, ◌<◌, ◌≤◌, List, [], ◌++◌, take, drop, Option, Some, Result, Ok, Err, refl, sym, ap, subst, ◌∙◌, arith, append_assoc, IfOk, IfErr}
-use Rattle.std.proofs.lemmas.List.{append-nil}
-use Rattle.gts_standby.specs.Cited.{Call, Directory, Gives, GoesOnBehind, HasGoneOn, InHand, IsAtGate, IsQuiet, OpenFault, PassesNext, Reaches, SaysFront, SaysHere, SaysOne, ShipFault, Speaks, file_of, next_entry, next_seal, on, record_of, record_size, record_text, sealed, seen, ship_fault}
+use Rattle.gts_standby.proofs.Cited.{◌≡◌, inl, inr, ℕ, ◌+◌, ◌-◌, ◌<◌, ◌≤◌, List, [], ◌++◌, take, drop, Option, Some, Result, Ok, Err, refl, sym, ap, subst, ◌∙◌, arith, append_assoc, IfOk, IfErr, append-nil, Call, Directory, Gives, GoesOnBehind, HasGoneOn, InHand, IsAtGate, IsQuiet, OpenFault, PassesNext, Reaches, SaysFront, SaysHere, SaysOne, ShipFault, Speaks, file_of, next_entry, next_seal, on, record_of, record_size, record_text, sealed, seen, ship_fault, common_steps}
 use Rattle.gts_record.specs.declared.value.Record.{Record}
 use Rattle.gts_record.specs.Record as texts
 use Rattle.gts_record.specs.declared.fault.OpenFault.TheVariants as opening
 use Rattle.gts_standby.proofs.SayLemmas.{says_none, says_more, fronts_behind, fronts_more}
 use Rattle.gts_standby.proofs.FeedLemmas.{goes_on, all_said, record_stands, no_end, no_fault}
-use Rattle.std.proofs.lemmas.Grind.{common_steps}
 
 -- ---- what a journal answered
 

@@ -1,17 +1,12 @@
 -- What of a feed is behind a place.
-use Rattle.std.proofs.Common.{◌≡◌, ◌⊎◌, ℕ, suc, ◌+◌, ◌-◌, ◌<◌, ◌≤◌, Bool, true, false, cond, ◌&&◌, nat_eq, nat_le, List, [], ◌∷◌, length, drop, Option, Some, None, Result, Ok, inl, inr, refl, sym, ap, subst, ◌∙◌, arith, ◌==◌}
-use Rattle.gts_standby.specs.Cited.{Call, Comes, Did, Directory, Finds, HasGoneOn, HasOpened, InHand, IsAtFirst, IsAtGate, IsBefore, Need, Reaches, SaysOnly, SaysRest, ShipFault, Since, StandsOn, State, Syncs, Version, after, begun, behind_at, behind_here, behind_place, checkpoint_opens, compacted_bytes, empty, entry_at, event_of_record, feed, feed_at, file_of, files_read, first_seal, held, is_at_checkpoint, is_checkpoint, next_entry, or_whole, pointwise, record_at, record_of, record_size, record_text, records_at, seal, seen, since_of, where_so, written}
+use Rattle.gts_standby.proofs.Cited.{◌≡◌, ◌⊎◌, ℕ, suc, ◌+◌, ◌-◌, ◌<◌, ◌≤◌, Bool, true, false, cond, ◌&&◌, nat_eq, nat_le, List, [], ◌∷◌, length, drop, Option, Some, None, Result, Ok, inl, inr, refl, sym, ap, subst, ◌∙◌, arith, ◌==◌, Call, Comes, Did, Directory, Finds, HasGoneOn, HasOpened, InHand, IsAtFirst, IsAtGate, IsBefore, Need, Reaches, SaysOnly, SaysRest, ShipFault, Since, StandsOn, State, Syncs, Version, after, begun, behind_at, behind_here, behind_place, checkpoint_opens, compacted_bytes, empty, entry_at, event_of_record, feed, feed_at, file_of, files_read, first_seal, held, is_at_checkpoint, is_checkpoint, next_entry, or_whole, pointwise, record_of, record_size, record_text, records_at, seal, seen, since_of, where_so, written, le-leb, lt-leb, nat_tests, drop-drop, at_mark, at_found, was_found, opens_behind, common_steps}
+use Rattle.gts_standby.specs.Cited.{record_at}
 use Rattle.gts_record.specs.declared.value.Record.{Record}
 use Rattle.gts_checkpoint.specs.Reading.{HasRead}
 use Rattle.gts_standby.specs.Since.{behind_checkpoint}
-use Rattle.std.proofs.lemmas.Bool.{le-leb, lt-leb}
-use Rattle.std.proofs.lemmas.Bool.Decides.{nat_tests}
-use Rattle.std.proofs.lemmas.List.{drop-drop}
 use Rattle.gts_record.specs.Record as texts
-use Rattle.gts_journal.proofs.LawLemmas.{at_mark, at_found, was_found, opens_behind}
 use Rattle.gts_standby.proofs.FeedLemmas.{some_step, end_behind, same_record, no_record, IsEnd, IsRecord, at_entry}
 use Rattle.gts_standby.proofs.FirstLemmas.{by_admission, same_feed, same_file, behind_sync, second_quiet, synced_quiet}
-use Rattle.std.proofs.lemmas.Grind.{common_steps}
 
 -- ---- what is found at a gate
 

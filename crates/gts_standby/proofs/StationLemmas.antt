@@ -1,32 +1,17 @@
 -- What the whole feed of a station's journal comes to, whatever it begins with.
-use Rattle.std.proofs.Common.{◌≡◌, ℕ, ◌+◌, ◌*◌, ◌-◌, ◌^◌, ◌<◌, ◌≤◌, Bool, true, false, cond, ◌&&◌, List, [], ◌∷◌, ◌++◌, length, take, drop, Option, Some, None, Ok, Err, nat_eq, nat_le, refl, sym, ap, subst, ◌∙◌, arith, length-append, not}
-use Rattle.gts_standby.specs.Cited.{Damaged, Directory, Ends, Files, InFeed, IsCheckpoint, Need, Parts, Piece, Read, Sealed, State, Taken, add_all, admits_checkpoint, begin_first, begin_with, begun, behind_checkpoint, by_piece, checkpoint_piece, checkpoint_text, comes_to, compacted_bytes, compare_all, compare_first, compared, draw_size, due, empty, feed, feed_at, feed_behind, file_opens, files_read, first_seal, header_fault, is_behind, is_bulletin, is_checkpoint, is_checkpoint_fed, is_further, is_sealed, is_sound, list_all, magic, need, need_in, or_anew, own_seals, pointwise, read_after, read_begun, read_behind, records_at, seal, seal_size, sealed, selected, selected_bytes, starts_with, stopped, take_records, taken, unowed, written}
-use Rattle.std.proofs.lemmas.Bool.{and_parts, leb-true}
-use Rattle.std.proofs.Math.Seq.{take-append_seam}
-use Rattle.std.proofs.lemmas.List.{append-nil, append_assoc}
-use Rattle.gts_record.proofs.LawLemmas.{length-sealed, starts_with-append}
-use Rattle.gts_opening.proofs.CheckpointLemmas.{need_in-text}
-use Rattle.gts_opening.proofs.FileLemmas.{fits-sound}
-use Rattle.gts_opening.proofs.LawLemmas.{magic_size}
-use Rattle.gts_journal.proofs.LawLemmas.{opens_behind}
-use Rattle.gts_standby.proofs.FirstLemmas.{starts}
+use Rattle.gts_standby.proofs.Cited.{◌≡◌, ℕ, ◌+◌, ◌-◌, ◌^◌, ◌<◌, ◌≤◌, Bool, true, false, cond, List, [], ◌∷◌, ◌++◌, length, take, drop, Option, Some, None, Ok, Err, nat_eq, refl, sym, ap, subst, ◌∙◌, arith, length-append, not, Damaged, Directory, Ends, Files, InFeed, IsCheckpoint, Need, Parts, Piece, Read, Sealed, State, Taken, add_all, admits_checkpoint, begin_first, begin_with, begun, behind_checkpoint, by_piece, checkpoint_piece, checkpoint_text, comes_to, compacted_bytes, compare_all, compare_first, compared, empty, feed, feed_at, feed_behind, file_opens, files_read, first_seal, header_fault, is_behind, is_checkpoint, is_checkpoint_fed, is_further, magic, need, need_in, or_anew, own_seals, pointwise, read_after, read_begun, read_behind, records_at, seal, seal_size, sealed, selected, selected_bytes, starts_with, stopped, take_records, taken, unowed, written, take-append_seam, append-nil, sound-parts, length-sealed, starts_with-append, need_in-text, fits-sound, magic_size, MayBegin, fit_bodies, opens_behind}
+use Rattle.std.proofs.lemmas.List.{append_assoc}
+use Rattle.gts_checkpoint.proofs.LawLemmas.{may_begin}
+use Rattle.gts_standby.proofs.FirstLemmas.{by_admission}
 use Rattle.gts_standby.proofs.HeaderLemmas.{header_on}
 use Rattle.gts_standby.proofs.ScanLemmas.{sealed_piece}
-use Rattle.gts_standby.proofs.ScannedLemmas.{scan_text, short_bodies}
+use Rattle.gts_standby.proofs.ScannedLemmas.{scan_text}
 use Rattle.gts_standby.proofs.PutLemmas.{begins_so}
 use Rattle.gts_standby.proofs.TakeLemmas.{sound_header}
 use Rattle.gts_standby.proofs.FrontLemmas.{records_by, come_by, unread_there, first_by, further_by}
 use Rattle.gts_standby.proofs.HistoryLemmas.{Comes, records_fed, drop_text, agreeing_all, header_is, feed_comes, plain_begins}
 
 -- ---- a checkpoint at the front
-
-abbrev by_admission : Directory → ℕ → List ℕ → Need → Bool → Read
-by_admission d file bytes n b = elim b as (λ _. Read) [
-  | false ↦ Err (Damaged file 41)
-  | true ↦
-      records_at written d (length bytes) file (seal written (first_seal written d.mark) (checkpoint_text n)) (begun n) (compacted_bytes written n - 1)
-      (drop (compacted_bytes written n - 1) bytes)
-]
 
 module _ (d : Directory) (file : ℕ) (bytes : List ℕ) (x : State × ℕ × List ℕ) (size : length d.mark ≡ 32) (limit : d.limit < 256 ^ 4) (opened : file_opens written d file bytes ≡ Ok x) (packed : is_checkpoint bytes ≡ true) where
   abbrev first : List ℕ
@@ -56,46 +41,30 @@ module _ (d : Directory) (file : ℕ) (bytes : List ℕ) (x : State × ℕ × Li
   sound : header_fault written d.mark file bytes ≡ None
   sound = sound_header written d file bytes x opened
 
-  chained : by_admission d file bytes n (admits_checkpoint written d (drop 41 bytes) n) ≡ Ok x
+  chained : by_admission written d file bytes n (admits_checkpoint written d (drop 41 bytes) n) ≡ Ok x
   chained = sym (opens_behind written d file bytes true sound packed) ∙ opened
 
   admitted : admits_checkpoint written d (drop 41 bytes) n ≡ true
   admitted = by_test (admits_checkpoint written d (drop 41 bytes) n) chained
     where
-      by_test : (b : Bool) → by_admission d file bytes n b ≡ Ok x → b ≡ true
+      by_test : (b : Bool) → by_admission written d file bytes n b ≡ Ok x → b ≡ true
       by_test true reads = refl
       by_test false reads = absurd (let one : Read = Err (Damaged file 41) in let e : one ≡ Ok x = reads in cc e)
 
   reads : records_at written d (length bytes) file last (begun n) gate (drop gate bytes) ≡ Ok x
-  reads = sym (ap (by_admission d file bytes n) admitted) ∙ chained
+  reads = sym (ap (by_admission written d file bytes n) admitted) ∙ chained
 
   -- the parts of its admission
   abbrev all : List ℕ
   all = drop 41 bytes
 
-  h1 : ((starts_with nat_eq all text && is_sealed written first text all && is_sound d n) ≡ true) × (nat_le (compacted_bytes written n + draw_size written * due (begun n)) d.limit ≡ true)
-  h1 = and_parts (starts_with nat_eq all text && is_sealed written first text all && is_sound d n) (nat_le (compacted_bytes written n + draw_size written * due (begun n)) d.limit) admitted
-
-  h2 : ((starts_with nat_eq all text && is_sealed written first text all) ≡ true) × (is_sound d n ≡ true)
-  h2 = and_parts (starts_with nat_eq all text && is_sealed written first text all) (is_sound d n) h1.0
-
-  h3 : (starts_with nat_eq all text ≡ true) × (is_sealed written first text all ≡ true)
-  h3 = and_parts (starts_with nat_eq all text) (is_sealed written first text all) h2.0
-
-  room : compacted_bytes written n + draw_size written * due (begun n) ≤ d.limit
-  room = leb-true (compacted_bytes written n + draw_size written * due (begun n)) d.limit h1.1
+  may : MayBegin written d all n
+  may = may_begin written d all n admitted
 
   free : unowed n ≡ n
   free =
-      let fits = fits-sound written d n h2.1 (omega (arith, limit, room)) in
-      sym (need_in-text n (drop (length text) all) fits) ∙ ap need_in (sym (starts all text h3.0))
-
-  bodies : list_all (is_bulletin d n.accepted) n.bulletins ≡ true
-  bodies =
-      let a = and_parts _ _ h2.1 in
-      let b = and_parts _ _ a.0 in
-      let c = and_parts _ _ b.0 in
-      (and_parts _ (list_all (is_bulletin d n.accepted) n.bulletins) c.0).1
+      let fits = fits-sound written d n may.sound (omega (arith, limit, may.room)) in
+      sym (need_in-text n may.begins.0 fits) ∙ ap need_in (sym may.begins.1)
 
   -- it is found, with its seal
   abbrev whole : ℕ
@@ -121,9 +90,10 @@ module _ (d : Directory) (file : ℕ) (bytes : List ℕ) (x : State × ℕ × Li
 
   pub piece : checkpoint_piece written d.limit first sent ≡ Sealed whole last
   piece =
-      let fits = fits-sound written d n h2.1 (omega (arith, limit, room)) in
-      let low : length text ≤ d.limit = omega (arith, room) in
-      let reached = ap (λ (l : List ℕ). behind_checkpoint d.limit l) sent_is ∙ scan_text d.limit n (last ++ rest) fits (short_bodies d n.accepted n.bulletins bodies) low in
+      let fits = fits-sound written d n may.sound (omega (arith, limit, may.room)) in
+      let sound = sound-parts d n may.sound in
+      let low : length text ≤ d.limit = omega (arith, may.room) in
+      let reached = ap (λ (l : List ℕ). behind_checkpoint d.limit l) sent_is ∙ scan_text d.limit n (last ++ rest) fits (fit_bodies d n.accepted n.bulletins sound.few sound.bodies) low in
       let ahead : InFeed = record { bytes = sent; is_all = false } in
       sealed_piece written d.limit (length text) first sent [] ahead true reached (record { is = sym (append-nil sent); all = λ e. absurd (cc e) }) there starts_seal
       ∙ ap (λ (l : List ℕ). Sealed whole (seal written first l)) front
@@ -131,9 +101,9 @@ module _ (d : Directory) (file : ℕ) (bytes : List ℕ) (x : State × ℕ × Li
   is_one : IsCheckpoint written d (take (whole - seal_size written) sent) n
   is_one = record {
     text = ap (λ (k : ℕ). take k sent) (let e : whole - seal_size written ≡ length text = omega arith in e) ∙ front;
-    sound = h2.1;
+    sound = may.sound;
     free = free;
-    room = room;
+    room = may.room;
   }
 
   -- so the journal begins with it, and goes on behind it

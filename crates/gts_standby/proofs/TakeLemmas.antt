@@ -1,15 +1,10 @@
 -- A feed is taken into a journal that opens.
-use Rattle.std.proofs.Common.{◌≡◌, ◌⊎◌, inl, inr, ℕ, zero, suc, ◌+◌, ◌-◌, ◌<◌, ◌≤◌, Bool, true, false, cond, ◌&&◌, List, [], ◌∷◌, ◌++◌, length, drop, Option, Some, None, Result, Ok, Err, refl, sym, ap, subst, ◌∙◌, arith}
-use Rattle.std.proofs.lemmas.Bool.{cases_lt}
-use Rattle.std.proofs.lemmas.List.{append-nil}
-use Rattle.gts_standby.specs.Cited.{Answers, AsBefore, BeforeIt, Breaks, Call, Core, Damaged, Did, Directory, DiskFault, Diverged, Done, EachImageReads, EachOpens, EachSince, End, Ends, EndsAs, EndsBegin, Feed, Files, FollowEnd, HasAdded, HasBegun, HasRead, HasTaken, HoldsAt, InFeed, InHand, IsAddEnd, IsEnd, IsFedEnd, IsOpened, IsReadEnd, IsTakenEnd, Leads, LeavesAlone, Need, NoMemory, OnlySyncs, Open, OpenFault, OpensTo, OpensWithin, Outside, Parts, Piece, Read, ReadsAll, ReadsToOneOf, Record, SourceFault, StandsFor, State, StopsAs, StopsAt, Syncs, Taken, Version, WithFront, WithinIt, add_all, admits_checkpoint, after, after_records, begin_first, begin_with, begun, begun_taken, by_header, by_piece, checkpoint_text, comes_to, compacted_bytes, compare_first, empty, entry_at, event_of_record, feed_at, file_of, file_opens, files_read, first_seal, header_fault, is_checkpoint, is_checkpoint_fed, is_further, is_other, is_other_first, magic, may_be_cut, need, need_in, open_end, opens, or_anew, own_seals, read_after, read_anew, read_at, read_begun, read_behind, record_behind, record_size, record_text, records_at, restarted, said_by, seal, seals_at, seals_behind, seen, selected, selected_bytes, start_of, state_after, stopped, take_records, taken, unread, written}
-use Rattle.gts_traits.proofs.LawLemmas.{weaker, joined}
+use Rattle.gts_standby.proofs.Cited.{◌≡◌, ◌⊎◌, inl, inr, ℕ, zero, suc, ◌+◌, ◌-◌, ◌<◌, ◌≤◌, Bool, true, false, cond, ◌&&◌, List, [], ◌∷◌, ◌++◌, length, drop, Option, Some, None, Result, Ok, Err, refl, sym, ap, subst, ◌∙◌, arith, cases_lt, append-nil, Answers, AsBefore, BeforeIt, Breaks, Call, Core, Damaged, Did, Directory, DiskFault, Diverged, Done, EachImageReads, EachOpens, EachSince, End, Ends, EndsAs, EndsBegin, Feed, Files, FollowEnd, HasAdded, HasBegun, HasRead, HasTaken, HoldsAt, InFeed, InHand, IsAddEnd, IsEnd, IsFedEnd, IsOpened, IsReadEnd, IsTakenEnd, Leads, LeavesAlone, Need, NoMemory, OnlySyncs, Open, OpenFault, OpensTo, OpensWithin, Outside, Parts, Piece, Read, ReadsAll, ReadsToOneOf, Record, SourceFault, StandsFor, State, StopsAs, StopsAt, Syncs, Taken, Version, WithFront, WithinIt, add_all, admits_checkpoint, after, after_records, begin_first, begin_with, begun, begun_taken, by_header, by_piece, checkpoint_text, comes_to, compacted_bytes, compare_first, empty, entry_at, event_of_record, feed_at, file_of, file_opens, files_read, first_seal, header_fault, is_checkpoint, is_checkpoint_fed, is_further, is_other, is_other_first, magic, may_be_cut, need, need_in, open_end, opens, or_anew, own_seals, read_after, read_anew, read_at, read_begun, read_behind, record_behind, record_size, record_text, records_at, restarted, said_by, seal, seals_at, seals_behind, seen, selected, selected_bytes, start_of, state_after, stopped, take_records, taken, unread, written, weaker, joined, syncs_silent, syncs_stand, open_selected, opens_behind, faulty_header, reads_end_there, reads_fault, common_steps}
 use Rattle.gts_record.specs.declared.fault.OpenFault.TheVariants as opening
-use Rattle.gts_journal.proofs.LawLemmas.{syncs_silent, syncs_stand, open_selected, opens_behind, faulty_header, reads_end_there, reads_fault}
+use Rattle.gts_standby.proofs.FirstLemmas.{by_admission}
 use Rattle.gts_standby.proofs.FeedLemmas.{leads_on, none_left, left_split}
 use Rattle.gts_standby.proofs.AddLemmas.{holds_of, opened_by, opened_now, read_now, no_begin, added_by}
 use Rattle.gts_standby.proofs.ReadLemmas.{as_before, with_front, images_read, opening_reads}
-use Rattle.std.proofs.lemmas.Grind.{common_steps}
 
 -- ---- at most a sync was tried
 
@@ -212,14 +207,6 @@ module _ (v : Version) (d : Directory) (file : ℕ) (before : List ℕ) (gate : 
 pub sound_header : (v : Version) (d : Directory) (file : ℕ) (bytes : List ℕ) (x : State × ℕ × List ℕ) → file_opens v d file bytes ≡ Ok x → header_fault v d.mark file bytes ≡ None
 sound_header v d file bytes x opened = grind (arith, common_steps, faulty_header)
 
-abbrev by_admission : Directory → ℕ → List ℕ → Need → Bool → Read
-by_admission d file bytes n b = elim b as (λ _. Read) [
-  | false ↦ Err (Damaged file 41)
-  | true ↦
-      records_at written d (length bytes) file (seal written (first_seal written d.mark) (checkpoint_text n)) (begun n) (compacted_bytes written n - 1)
-      (drop (compacted_bytes written n - 1) bytes)
-]
-
 module _ (d : Directory) (s : State) (calls : List Call) (j : InHand) (f : StandsFor d s calls j) where
   abbrev its_bytes : List ℕ
   its_bytes = file_of calls j
@@ -246,13 +233,13 @@ module _ (d : Directory) (s : State) (calls : List Call) (j : InHand) (f : Stand
   packed_gate packed false bad =
       absurd
       (let one : Read = Err (Damaged j.file 41) in
-      let e : one ≡ Ok its_end = sym (ap (by_admission d j.file its_bytes its_need) bad) ∙ sym (opens_behind written d j.file its_bytes true header packed) ∙ opens_there in cc e)
+      let e : one ≡ Ok its_end = sym (ap (by_admission written d j.file its_bytes its_need) bad) ∙ sym (opens_behind written d j.file its_bytes true header packed) ∙ opens_there in cc e)
   packed_gate packed true ok =
-      let reads : by_admission d j.file its_bytes its_need true ≡ Ok its_end =
-      sym (ap (by_admission d j.file its_bytes its_need) ok) ∙ sym (opens_behind written d j.file its_bytes true header packed) ∙ opens_there in
+      let reads : by_admission written d j.file its_bytes its_need true ≡ Ok its_end =
+      sym (ap (by_admission written d j.file its_bytes its_need) ok) ∙ sym (opens_behind written d j.file its_bytes true header packed) ∙ opens_there in
       by_low (cases_lt (compacted_bytes written its_need - 1) j.gate) reads
     where
-      by_low : (compacted_bytes written its_need - 1 < j.gate) ⊎ (j.gate ≤ compacted_bytes written its_need - 1) → by_admission d j.file its_bytes its_need true ≡ Ok its_end → 40 < j.gate
+      by_low : (compacted_bytes written its_need - 1 < j.gate) ⊎ (j.gate ≤ compacted_bytes written its_need - 1) → by_admission written d j.file its_bytes its_need true ≡ Ok its_end → 40 < j.gate
       by_low (inl far) reads = omega (arith, far)
       by_low (inr low) reads =
           let e = at_its_end written d j.file (seal written first (checkpoint_text its_need)) (compacted_bytes written its_need - 1) its_bytes (length its_bytes) (begun its_need) s j.gate j.seal (omega arith) reads low in
@@ -451,7 +438,7 @@ first_taken answer d s old new j fed left f low has =
 pub all_unread : (left : List ℕ) → HasRead left unread left
 all_unread left = record { is = refl; all = λ is. absurd (cc is) }
 
-abbrev come_by : Directory → Files → List ℕ → Read → Result Taken OpenFault
+abbrev pub come_by : Directory → Files → List ℕ → Read → Result Taken OpenFault
 come_by d files fed r = elim r as (λ _. Result Taken OpenFault) [
   | Err fault ↦ Err fault
   | Ok read ↦ Ok (taken written d read.0 (read.1 - 1) read.2 (own_seals d (selected_bytes files)) fed)

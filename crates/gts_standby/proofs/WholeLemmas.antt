@@ -1,6 +1,5 @@
 -- At the end of a feed its source has no more.
-use Rattle.std.proofs.Common.{◌≡◌, ◌⊎◌, inl, inr, ℕ, List, ◌++◌, refl, sym, ◌∙◌, subst}
-use Rattle.gts_standby.specs.Cited.{DiskFault, Done, FollowEnd, HasRead, InFeed, IsEnd, IsOwnEnd, IsPutEnd, IsReadEnd, IsUnsealed, IsWhole, OpenFault, ReadsAll, SourceFault, StopsAs, Taken, Version, open_end}
+use Rattle.gts_standby.proofs.Cited.{◌≡◌, ◌⊎◌, inl, inr, ℕ, List, ◌++◌, refl, sym, ◌∙◌, subst, DiskFault, Done, FollowEnd, HasRead, InFeed, IsEnd, IsOwnEnd, IsPutEnd, IsReadEnd, IsUnsealed, IsWhole, OpenFault, ReadsAll, SourceFault, StopsAs, Taken, Version, open_end}
 use Rattle.gts_record.specs.declared.fault.OpenFault.TheVariants as opening
 
 pub whole_read : (ahead : InFeed) (left : List ℕ) → IsWhole ahead left → HasRead (ahead.bytes ++ left) ahead left

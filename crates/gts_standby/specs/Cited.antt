@@ -4,10 +4,10 @@ pub use Rattle.gts_standby.specs.Feed.{checkpoint_feed, feed, feed_at, feed_behi
 pub use Rattle.gts_standby.specs.Shipping.{GoesOnBehind, HasOpened, IsAtFirst, IsAtGate, IsNamed, IsQuiet, IsShipFault, OnlySyncsUnopened, Reaches, SaysFrontSynced, SaysHere, SaysOne, SaysRest, ShipsOnly, Speaks, behind_header, feed_of, ship_fault}
 pub use Rattle.gts_standby.specs.Since.{Comes, EndsWith, Finds, HasFront, IsBefore, IsBehindFront, IsWithin, LooksFor, Passes, PassesUnder, asked_of, behind_at, behind_here, behind_place, feed_since, found_since, or_whole, record_at, since_of, where_so}
 pub use Rattle.gts_standby.specs.Ahead.{InFeed}
-pub use Rattle.gts_standby.specs.Taking.{Bad, Behind, Breaks, Broken, Cut, End, Ends, Parts, Piece, Reached, Sealed, Short, Taken, add_all, adding, and_then, begin_first, begin_with, behind_all, behind_bulletin, behind_checkpoint, behind_circuit, behind_counted, behind_lists, bulletin_size, by_header, by_piece, checkpoint_piece, checkpoint_seals, circuit_size, compare_all, compare_first, compared, first_piece, is_behind, is_checkpoint_fed}
-pub use Rattle.gts_standby.specs.Taking.{is_further, is_other_first, least_bulletin, least_front, may_be_cut, may_begin, number_at, or_anew, or_else, reach, reach_found, record_piece, rest_of, seals_at, seals_behind, stopped, take_records, taken, unsealed}
+pub use Rattle.gts_standby.specs.Taking.{Bad, Behind, Breaks, Broken, Cut, End, Ends, Parts, Piece, Reached, Sealed, Short, Taken, add_all, adding, and_then, begin_first, begin_with, behind_all, behind_checkpoint, behind_counted, behind_front, behind_one, by_header, by_piece, checkpoint_by, checkpoint_piece, checkpoint_seals, compare_all, compare_first, compared, first_piece, is_behind, is_checkpoint_fed}
+pub use Rattle.gts_standby.specs.Taking.{is_further, is_other_first, may_be_cut, may_begin, or_anew, reach, reach_found, record_piece, rest_of, seals_at, seals_behind, stopped, take_records, taken, unsealed}
 pub use Rattle.gts_standby.specs.Following.{AddsAllOf, Answers, AsBefore, EachImageReads, EachOpens, EndsAs, IsEnd, KeepsAllOf, LeavesAlone, LeavesFronts, LeavesUnopened, OpensWithin, ReadsToOneOf, WithFront, comes_to, open_end, own_seals, read_after, read_anew, read_at, read_begun, read_behind, start_of, state_after}
-pub use Rattle.gts_standby.specs.Reading.{FindsFront, FindsPiece, HasRead, IsFedEnd, IsLater, IsReadEnd, IsUnsealed, KeepsOther, ReadsAll, StopsAs, StopsAt, TakesHeader, behind_listed, is_other, listed_size, unread}
+pub use Rattle.gts_standby.specs.Reading.{FindsPiece, HasRead, IsFedEnd, IsLater, IsReadEnd, IsUnsealed, KeepsOther, ReadsAll, StopsAs, StopsAt, TakesHeader, is_other, unread}
 pub use Rattle.gts_standby.specs.Gathering.{Brings, CanGather, GathersNext, GathersNone, HasBrought, HasGatheredOne, HoldsBehind, IsFinished, IsGathered, IsGathering, MayBring, MayHaveBrought, StandsBehind, gate_behind, read_with}
 pub use Rattle.gts_standby.specs.Adding.{AddsAll, HasAdded, HoldsAt, IsAddEnd}
 pub use Rattle.gts_standby.specs.Comparing.{Compares, ComparesAll, ComparesFirstOfAny, ComparesNext, ComparesRest, HasCompared, IsAtSeals, IsBehindOne, IsDevice, IsOwnEnd, Leads, OwnGoesOn, seals_here}
@@ -21,7 +21,5 @@ pub use Rattle.gts_standby.specs.declared.end.FollowEnd.TheVariants.{DiskFault, 
 pub use Rattle.gts_standby.specs.declared.fault.ShipFault.{ShipFault}
 pub use Rattle.gts_standby.specs.declared.fed.TheConstants.{LONGEST}
 pub use Rattle.gts_standby.specs.declared.gathering.Gathering.{Gathering}
-pub use Rattle.gts_standby.specs.declared.scanning.Listed.{Listed}
-pub use Rattle.gts_standby.specs.declared.scanning.Listed.TheVariants.{Bulletin, Circuit}
 pub use Rattle.gts_standby.specs.declared.since.Since.{Since}
 unfoldable pub use Below.*

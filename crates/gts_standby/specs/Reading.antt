@@ -1,12 +1,10 @@
 -- How a feed is read, and the ends of what is read of it.
-use Rattle.std.specs.Prelude.{◌≡◌, ℕ, zero, suc, Bool, true, false, List, [], ◌++◌, drop, replicate, codes, nat_eq, Option, Some, None, Result, Ok, Err}
-use Rattle.gts_standby.specs.Cited.Below.{Version, held, starts_with}
-use Rattle.gts_standby.specs.declared.scanning.Listed.{Listed}
-use Rattle.gts_standby.specs.declared.scanning.Listed.TheVariants.{Bulletin, Circuit}
+use Rattle.std.specs.Prelude.{◌≡◌, ℕ, zero, suc, Bool, true, false, List, [], ◌++◌, drop, Result, Ok, Err}
+use Rattle.gts_standby.specs.Cited.Below.{Version, held}
 use Rattle.gts_standby.specs.declared.end.FollowEnd.{FollowEnd}
 use Rattle.gts_standby.specs.declared.end.FollowEnd.TheVariants.{Done, Open, Feed, Diverged, SourceFault, DiskFault, NoMemory}
 use Rattle.gts_standby.specs.Ahead.{InFeed}
-use Rattle.gts_standby.specs.Taking.{End, Taken, stopped, by_header, Piece, Sealed, by_piece, Reached, Short, Bad, Behind, may_be_cut, number_at, or_else, least_bulletin, bulletin_size, behind_bulletin, circuit_size, behind_circuit}
+use Rattle.gts_standby.specs.Taking.{End, Taken, stopped, by_header, Piece, Sealed, by_piece, Reached, Short, Bad, Behind, may_be_cut}
 use Rattle.gts_standby.specs.Following.{EndsAs}
 
 -- what was read ahead and what the source has left are what is left of a feed
@@ -82,15 +80,6 @@ abbrev pub FindsPiece : Result (ℕ × List ℕ) FollowEnd → Version → ℕ �
 FindsPiece (Ok found) v at piece fed ahead left = (piece ≡ Sealed found.0 (held v found.1)) × HasRead fed ahead left
 FindsPiece (Err end) v at piece fed ahead left = (next : ℕ → List ℕ → Taken) → StopsAs end (by_piece at piece next) left
 
--- how many bytes one of a checkpoint's bulletins or circuits has by its first ones, as far as they are there
-abbrev pub listed_size : Listed → List ℕ → ℕ → Option ℕ
-listed_size Bulletin bytes at = bulletin_size (or_else least_bulletin bytes at)
-listed_size Circuit bytes at = Some (circuit_size (or_else (replicate 16 0) bytes at))
-
-abbrev pub behind_listed : Listed → ℕ → List ℕ → ℕ → Reached
-behind_listed Bulletin = behind_bulletin
-behind_listed Circuit = behind_circuit
-
 -- a place in a checkpoint was reached
 abbrev pub Reaches : Result ℕ FollowEnd → Reached → List ℕ → InFeed → List ℕ → Type 0
 Reaches (Ok at) reached fed ahead left = (reached ≡ Behind at) × HasRead fed ahead left
@@ -103,9 +92,3 @@ abbrev pub IsUnsealed : FollowEnd → Version → InFeed → ℕ → Type 0
 IsUnsealed Done v ahead at = (ahead.is_all ≡ true) × (may_be_cut v ahead.bytes ≡ true)
 IsUnsealed (Feed place) v ahead at = (place ≡ at) × (ahead.is_all ≡ true → may_be_cut v ahead.bytes ≡ false)
 IsUnsealed end v ahead at = ⊥
-
--- how many circuits and bulletins a checkpoint has by its first bytes, or that none begins so
-abbrev pub FindsFront : Option (ℕ × ℕ) → List ℕ → Type 0
-FindsFront None front = starts_with nat_eq front (codes "C" ++ replicate 3 0) ≡ false
-FindsFront (Some found) front =
-    (starts_with nat_eq front (codes "C" ++ replicate 3 0) ≡ true) × (found.0 ≡ number_at front 4) × (found.1 ≡ number_at front 16)

@@ -1,6 +1,6 @@
 -- What a feed comes to where it is taken into a journal (profile): the records that are added, and how it ends.
-use Rattle.std.specs.Prelude.{ℕ, zero, suc, ◌+◌, ◌-◌, ◌*◌, Bool, true, false, ◌&&◌, ◌||◌, not, ◌==◌, nat_eq, nat_lt, nat_le, is_some, if◌then◌else◌, List, [], ◌∷◌, ◌++◌, length, take, drop, replicate, zip, codes, Option, Some, None}
-use Rattle.gts_standby.specs.Cited.Below.{Directory, LONGEST_BODY, Need, Record, State, Version, admits_checkpoint, after, agreeing, begun, checkpoint_text, compacted_bytes, event_of_record, first_seal, is_sealed, kind_of, list_any, magic, need, need_in, number_in, open_gate, pointwise, record_at, record_behind, record_size, record_text, seal, seal_size, sealed_at, slice_index_or, starts_with}
+use Rattle.std.specs.Prelude.{ℕ, zero, suc, ◌+◌, ◌-◌, Bool, true, false, ◌&&◌, ◌||◌, not, ◌==◌, nat_eq, nat_lt, nat_le, is_some, if◌then◌else◌, List, [], ◌∷◌, ◌++◌, length, take, drop, replicate, zip, codes, Option, Some, None}
+use Rattle.gts_standby.specs.Cited.Below.{Bulletin, Circuit, Directory, FRONT, LONGEST_BODY, Listed, Need, Record, State, Version, admits_checkpoint, after, agreeing, begun, checkpoint_text, compacted_bytes, event_of_record, first_seal, front_counts, is_sealed, list_any, listed_size, magic, need, need_in, open_gate, pointwise, record_at, record_behind, record_size, record_text, seal, seal_size, sealed_at, starts_with}
 
 -- How a feed ends: it is taken to its end; or it is bad at a place; or it has another record with a number, where these two seals
 -- stand, the journal's and the feed's.
@@ -65,14 +65,6 @@ pub data Reached : Type 0 where
   Bad : Reached
   Behind : (at : ℕ) → Reached
 
--- so many bytes of a text from a place on, as far as they are there; behind them those of another one
-abbrev pub or_else : List ℕ → List ℕ → ℕ → List ℕ
-or_else text bytes at = let found : List ℕ = take (length text) (drop at bytes) in found ++ drop (length found) text
-
--- the number in four bytes
-abbrev pub number_at : List ℕ → ℕ → ℕ
-number_at bytes at = number_in (take 4 (drop at bytes))
-
 -- behind so many bytes more, in a checkpoint no longer than a limit
 abbrev pub reach : ℕ → List ℕ → ℕ → ℕ → Reached
 reach limit bytes at size =
@@ -83,26 +75,9 @@ abbrev pub reach_found : ℕ → List ℕ → ℕ → Option ℕ → Reached
 reach_found limit bytes at None = Bad
 reach_found limit bytes at (Some size) = reach limit bytes at size
 
--- what a bulletin may begin with: zeros, and a letter that stands for a type
-abbrev pub least_bulletin : List ℕ
-least_bulletin = replicate 9 0 ++ codes "A" ++ replicate 6 0
-
--- the size of a bulletin that begins so
-abbrev pub bulletin_size : List ℕ → Option ℕ
-bulletin_size head =
-    if is_some (kind_of (slice_index_or head 9 0)) && (slice_index_or head 10 0 == 0) && (slice_index_or head 11 0 == 0)
-    && nat_le (number_at head 12) LONGEST_BODY
-    then Some (16 + number_at head 12) else None
-
-abbrev pub behind_bulletin : ℕ → List ℕ → ℕ → Reached
-behind_bulletin limit bytes at = reach_found limit bytes at (bulletin_size (or_else least_bulletin bytes at))
-
--- the size of what is needed of a circuit that begins so
-abbrev pub circuit_size : List ℕ → ℕ
-circuit_size head = 16 + 8 * (number_at head 8 + number_at head 12)
-
-abbrev pub behind_circuit : ℕ → List ℕ → ℕ → Reached
-behind_circuit limit bytes at = reach limit bytes at (circuit_size (or_else (replicate 16 0) bytes at))
+-- behind a bulletin or a circuit
+abbrev pub behind_one : Listed → ℕ → List ℕ → ℕ → Reached
+behind_one listed limit bytes at = reach_found limit bytes at (listed_size listed (drop at bytes))
 
 -- behind one, and what is reached from there
 abbrev pub and_then : Reached → (ℕ → Reached) → Reached
@@ -115,35 +90,32 @@ abbrev pub behind_all : (ℕ → Reached) → ℕ → ℕ → Reached
 behind_all one zero at = Behind at
 behind_all one (suc n) at = and_then (one at) (behind_all one n)
 
--- what a checkpoint may begin with
-abbrev pub least_front : List ℕ
-least_front = codes "C" ++ replicate 19 0
-
 -- behind so many bulletins and circuits of a checkpoint
 abbrev pub behind_counted : ℕ → List ℕ → ℕ → ℕ → Reached
 behind_counted limit bytes bulletins circuits =
-    and_then (reach limit bytes 0 20) (λ at.
-    and_then (behind_all (behind_bulletin limit bytes) bulletins at) (λ behind. behind_all (behind_circuit limit bytes) circuits behind))
+    and_then (reach limit bytes 0 FRONT)
+    (λ at. and_then (behind_all (behind_one Bulletin limit bytes) bulletins at) (behind_all (behind_one Circuit limit bytes) circuits))
 
--- behind those of a checkpoint that begins so
-abbrev pub behind_lists : ℕ → List ℕ → List ℕ → Reached
-behind_lists limit bytes front =
-    if starts_with nat_eq front (codes "C" ++ replicate 3 0)
-    then behind_counted limit bytes (number_at front 16) (number_at front 4) else Bad
+-- behind those of a checkpoint that has so many circuits and bulletins, or that can't stand there
+abbrev pub behind_front : ℕ → List ℕ → Option (ℕ × ℕ) → Reached
+behind_front limit bytes None = Bad
+behind_front limit bytes (Some counts) = behind_counted limit bytes counts.1 counts.0
 
 -- behind the checkpoint at the front
 abbrev pub behind_checkpoint : ℕ → List ℕ → Reached
-behind_checkpoint limit bytes = behind_lists limit bytes (or_else least_front bytes 0)
+behind_checkpoint limit bytes = behind_front limit bytes (front_counts bytes)
 
--- the checkpoint at the front, where this seal stands before it
+-- the checkpoint that ends there, where this seal stands before it
+abbrev pub checkpoint_by : Version → List ℕ → List ℕ → Reached → Piece
+checkpoint_by v before bytes Short = Cut
+checkpoint_by v before bytes Bad = Broken
+checkpoint_by v before bytes (Behind size) =
+    if nat_lt (length bytes) (size + seal_size v) then Cut
+    else if is_sealed v before (take size bytes) bytes then Sealed (size + seal_size v) (seal v before (take size bytes)) else Broken
+
+-- the checkpoint at the front
 abbrev pub checkpoint_piece : Version → ℕ → List ℕ → List ℕ → Piece
-checkpoint_piece v limit before bytes = elim (behind_checkpoint limit bytes) [
-  | Short ↦ Cut
-  | Bad ↦ Broken
-  | Behind size ↦
-      if nat_lt (length bytes) (size + seal_size v) then Cut
-      else if is_sealed v before (take size bytes) bytes then Sealed (size + seal_size v) (seal v before (take size bytes)) else Broken
-]
+checkpoint_piece v limit before bytes = checkpoint_by v before bytes (behind_checkpoint limit bytes)
 
 -- a checkpoint may stand first, by its first byte
 abbrev pub is_checkpoint_fed : List ℕ → Bool

@@ -48,6 +48,14 @@ impl Ahead {
         &self.bytes[self.begin..]
     }
 
+    /// Those from a place on.
+    pub(crate) fn bytes_from(&self, at: usize) -> &[u8]
+        ensures { result.now ≡ drop at self.now.bytes }
+    {
+        let bytes = self.bytes();
+        &bytes[at.min(bytes.len())..]
+    }
+
     /// How many these are.
     pub(crate) fn len(&self) -> usize
         ensures { result ≡ length self.now.bytes }

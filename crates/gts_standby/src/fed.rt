@@ -4,10 +4,10 @@ ghost use Rattle.gts_standby.specs.Cited.{AsksFeed, FindsPiece, HasRead, IsFedEn
 
 use crate::FollowEnd;
 use crate::ahead::Ahead;
-use crate::scanning::{number_at, put_over};
 use gts_alphabet::LONGEST_BODY;
+use gts_checkpoint::put_over;
 use gts_journal::Version;
-use gts_record::{decode, decode_sealed};
+use gts_record::{decode, decode_sealed, number_in_four};
 use gts_traits::Source;
 
 /// The most bytes of a record with its seal: sixteen stand in front of a body.
@@ -19,7 +19,7 @@ fn may_begin_draw(bytes: &[u8]) -> bool
     ensures { result ≡ may_begin bytes.now }
 {
     let mut draw = *b"D\0\0\0\0\0\0\0\0\0\0\0\0\0\0\0\0\0\0\0\0\0\0";
-    put_over(&mut draw, bytes, 0);
+    put_over(&mut draw, bytes);
     decode(&draw).is_some()
 }
 
@@ -30,8 +30,10 @@ fn may_begin_accept(bytes: &[u8]) -> bool
     ensures { result ≡ may_begin bytes.now }
 {
     let mut head = *b"A\0A\0\0\0\0\0\0\0\0\0\0\0\0\0";
-    put_over(&mut head, bytes, 0);
-    if number_at(&head, 12) > LONGEST_BODY {
+    put_over(&mut head, bytes);
+    let mut size = [0u8; 4];
+    size.copy_from_slice(&head[12..]);
+    if number_in_four(&size) as usize > LONGEST_BODY {
         return false;
     }
     head[12..].copy_from_slice(&[0; 4]);

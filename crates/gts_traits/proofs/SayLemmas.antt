@@ -1,10 +1,6 @@
 -- What was said in pieces. For the proofs of crates above too.
-use Rattle.std.proofs.Common.{◌≡◌, ℕ, List, [], ◌∷◌, ◌++◌, Result, Ok, Err, inl, inr, refl, ap, ◌∙◌}
-use Rattle.std.proofs.lemmas.List.{append_assoc}
-use Rattle.gts_traits.specs.Cited.{Broken, Call, Did, EachTouchesNone, Outside, Says, SaysFront, SaysOnly, Tells, TouchesNone, Tries, WritesNothing, on, said_by, seen}
+use Rattle.gts_traits.proofs.Cited.{◌≡◌, ℕ, List, [], ◌∷◌, ◌++◌, Result, Ok, Err, inl, inr, refl, ap, ◌∙◌, append_assoc, Broken, Call, Did, EachTouchesNone, Outside, Says, SaysFront, SaysOnly, Tells, TouchesNone, Tries, WritesNothing, on, said_by, seen, common_steps, arith}
 use Rattle.gts_traits.proofs.OutsideLemmas.{on-append, SaidSince-refl, SaidSince-trans, SaidSince-from_say}
-use Rattle.std.proofs.lemmas.Grind.{common_steps}
-use Rattle.std.proofs.Common.{arith}
 
 each_untouched : (xs ys : List Call) → EachTouchesNone xs → EachTouchesNone ys → EachTouchesNone (xs ++ ys)
 each_untouched [] ys first second = second
@@ -44,15 +40,7 @@ tells_try (Ok done) channel bytes old new is = record {
   untouched = untouched_call old new (Did (Says channel bytes)) tt is;
 }
 tells_try (Err e) channel bytes old new broke = elim broke [
-  | inl same ↦ record {
-    left = [];
-    front = (on channel bytes, refl);
-    said = record {
-      said = ap said_by same ∙ SaidSince-refl old;
-      files = λ file. ap (λ (calls : List Call). seen calls file) same;
-      untouched = untouched_same old new same;
-    };
-  }
+  | inl same ↦ grind (arith, common_steps, on, said_by, SaidSince-refl, seen, untouched_same)
   | inr left ↦ record {
     left = on channel left.0;
     front = (on channel left.1.0, ap (on channel) left.1.1 ∙ on-append channel left.0 left.1.0);

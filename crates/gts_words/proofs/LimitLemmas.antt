@@ -1,7 +1,5 @@
 -- The count of a command is within its limits.
-use Rattle.std.proofs.Common.{◌≡◌, ℕ, ◌≤◌, ◌/◌, ◌%◌, Bool, true, false, ◌&&◌, List, [], ◌∷◌, Option, Some, None, length, nat_le, cond, codes, refl, subst, arith, option_map, ◌==◌}
-use Rattle.gts_words.specs.Cited.{Command, Compact, Count, Follow, Gaps, Generate, Init, LONGEST_CONNECTIONS, LONGEST_COUNT, MOST_CONNECTIONS, MOST_GENERATED, Migrate, MigrateCheck, MigrateDrop, Pack, Replay, Serve, ServeAlways, Ship, ShipSince, Show, Unpack, alone, circuit_in, command_of, count_in, digits_value, gaps_of, is_ascii_digit, is_count, is_moment, list_all, migrating, moment_in, number_in, same, seal_in, serving, ship_behind, used_in}
-use Rattle.std.proofs.lemmas.Bool.{leb-true, and_parts}
+use Rattle.gts_words.proofs.Cited.{◌≡◌, ℕ, ◌≤◌, ◌/◌, ◌%◌, Bool, true, false, ◌&&◌, List, [], ◌∷◌, Option, Some, None, length, nat_le, cond, codes, refl, subst, arith, option_map, ◌==◌, Command, Compact, Count, Follow, Gaps, Generate, Init, LONGEST_CONNECTIONS, LONGEST_COUNT, MOST_CONNECTIONS, MOST_GENERATED, Migrate, MigrateCheck, MigrateDrop, Pack, Replay, Serve, ServeAlways, Ship, ShipSince, Show, Unpack, alone, circuit_in, command_of, count_in, digits_value, gaps_of, is_ascii_digit, is_count, is_moment, list_all, migrating, moment_in, number_in, same, seal_in, serving, ship_behind, used_in, leb-true, and_parts}
 
 -- a command has no count, or one within the limits
 abbrev IsWithin : Command → Type 0

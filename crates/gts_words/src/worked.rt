@@ -1,5 +1,7 @@
 //! Lists of words, each row the contract of a function with an empty body.
 
+#![tactic(auto, unfolding(hex::proofs::OnLiterals::hex_on_literals))]
+
 ghost use Rattle.gts_words.specs.Worked.{OneWord, Counts, ConnectionCounts, DigitWords, MigrateWords, SinceWords, NoCommands};
 
 /// Each command that is one word.

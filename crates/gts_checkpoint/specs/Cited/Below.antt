@@ -17,4 +17,4 @@ pub use Rattle.gts_record.specs.declared.fault.OpenFault.{OpenFault}
 pub use Rattle.gts_record.specs.declared.fault.OpenFault.TheVariants.{Damaged, DiskFault, NoJournal, NoMemory, NotThis, OldVersion}
 pub use Rattle.gts_record.specs.declared.sealer.Sealer.{Sealer}
 pub use Rattle.gts_record.specs.declared.version.Version.{Version}
-pub use Rattle.gts_opening.specs.Cited.{FitsBulletin, FitsCircuit, FitsLimit, FitsNeed, admits_checkpoint, bulletin_in, bulletin_text, checkpoint_text, circuit_in, circuit_text, compacted_bytes, due, need_in, unowed, unowed_circuit}
+pub use Rattle.gts_opening.specs.Cited.{FitsBulletin, FitsCircuit, FitsLimit, FitsNeed, admits_checkpoint, bulletin_in, bulletin_text, checkpoint_text, circuit_in, circuit_text, compacted_bytes, due, many_in, need_in, numbers_in, unowed, unowed_circuit}

@@ -1,5 +1,7 @@
 //! Reports of literal needs, each row the contract of a function with an empty body.
 
+#![tactic(auto, unfolding(gts_alphabet::specs::Digits::dec, gts_heading::specs::Heading::heading_text, gts_heading::specs::Reading::bare_group_at, gts_heading::specs::Reading::bare_heading_at, gts_heading::specs::Reading::heading_at, gts_heading::specs::Reading::message_group_at, gts_heading::specs::Reading::plain_heading_at, gts_message::specs::Message::body_at, gts_message::specs::Message::text_at, gts_record::specs::Format::written, crate::specs::Worked::digits))]
+
 ghost use Rattle.gts_report.specs.ChangesWorked.{NothingChanges, RuleGone, CircuitClosed, LessKept};
 
 /// Where nothing changes, the report has its end alone.

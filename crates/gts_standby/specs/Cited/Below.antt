@@ -16,5 +16,9 @@ pub use Rattle.gts_opening.specs.Cited.{AreAdmitted, FitsCircuit, FitsLimit, Fit
 pub use Rattle.gts_core.specs.Cited.{Core, Holds}
 pub use Rattle.gts_journal.specs.Cited.{AreNext, EndsAt, Gathered, Gathers, Gives, HasAppendedBlock, HasGoneOn, HoldsState, InHand, IsBlock, IsFaultOf, LeavesAllOrNone, LeavesBoth, OnlySyncs, OpensTo, StandsFor, StandsOn, beyond_block, entry_at, file_of, first_fault, front_of, header_fault, is_at_checkpoint, is_checkpoint, next_entry, next_seal, no_records, opened_part, selected_bytes, selecting}
 pub use Rattle.gts_journal.specs.declared.batch.TheConstants.{MOST_GATHERED}
-pub use Rattle.gts_checkpoint.specs.Cited.{BeginsWith, HasWritten, IsCheckpoint, IsDamage, LeavesOthers, WorksBeside, bytes_from, need_seal}
+pub use Rattle.gts_checkpoint.specs.Cited.{BeginsWith, FitBodies, HasWritten, IsCheckpoint, IsDamage, LeavesOthers, WorksBeside, bytes_from, need_seal, or_else}
+unfoldable pub use Rattle.gts_checkpoint.specs.Cited.{front_counts, listed_size}
+pub use Rattle.gts_checkpoint.specs.declared.heads.TheConstants.{FRONT}
+pub use Rattle.gts_checkpoint.specs.declared.heads.Listed.{Listed}
+pub use Rattle.gts_checkpoint.specs.declared.heads.Listed.TheVariants.{Bulletin, Circuit}
 pub use Rattle.gts_recovery.specs.Cited.{Follows, IsAnswer, IsJudged, IsKept, IsOpened}

@@ -1,4 +1,4 @@
-use Rattle.std.proofs.Common.{arith}
+use Rattle.gts_accum.proofs.Cited.{arith}
 use Rattle.gts_accum.proofs.PlaceLemmas.{reads-entries, good-file, bad-file, file-bad}
 use Rattle.gts_accum.proofs.laws.a_bad_place_is_where_no_file_goes_on.Goals as goal
 

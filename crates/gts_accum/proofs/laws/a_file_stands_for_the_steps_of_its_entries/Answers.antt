@@ -1,4 +1,4 @@
-use Rattle.std.proofs.Common.{ap, arith}
+use Rattle.gts_accum.proofs.Cited.{ap, arith}
 use Rattle.gts_accum.specs.Capture.{capture_of}
 use Rattle.gts_accum.proofs.PlaceLemmas.{reads-entries}
 use Rattle.gts_accum.proofs.laws.a_file_stands_for_the_steps_of_its_entries.Goals as goal

@@ -1,5 +1,4 @@
-use Rattle.std.proofs.Common.{◌≡◌, ◌≤◌, List, ℕ, length, Result, Err, Ok, subst, arith}
-use Rattle.gts_accum.specs.Cited.{Failed, LONGEST_STREAM, Tells, on}
+use Rattle.gts_accum.proofs.Cited.{◌≡◌, ◌≤◌, List, ℕ, length, Result, Err, Ok, subst, arith, Failed, LONGEST_STREAM, Tells, on}
 use Rattle.gts_accum.proofs.PackLemmas.{sound_at_end, told_to_end}
 use Rattle.gts_accum.proofs.packing.finish.Goals as goal
 

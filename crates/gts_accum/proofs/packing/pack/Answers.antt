@@ -1,6 +1,4 @@
-use Rattle.std.proofs.Common.{◌≡◌, ◌≤◌, ◌++◌, ℕ, List, [], length, take, Result, Option, sym, ap, subst, ◌∙◌, append_assoc, arith, unwrap_or}
-use Rattle.std.proofs.lemmas.List.{length-append, length-take-le}
-use Rattle.gts_accum.specs.Cited.{Call, LONGEST_STREAM, PieceEnds, Stands, Stop}
+use Rattle.gts_accum.proofs.Cited.{◌≡◌, ◌≤◌, ◌++◌, ℕ, List, [], length, take, Result, Option, sym, ap, subst, ◌∙◌, append_assoc, arith, unwrap_or, length-append, length-take-le, Call, LONGEST_STREAM, PieceEnds, Stands, Stop}
 use Rattle.gts_accum.proofs.PackLemmas.{same_files, in_stream, past_stream, piece_files}
 use Rattle.gts_accum.proofs.packing.pack.Goals as goal
 

@@ -1,5 +1,4 @@
-use Rattle.std.proofs.Common.{◌≡◌, ◌≤◌, ◌-◌, ◌++◌, ℕ, List, length}
-use Rattle.gts_accum.specs.Cited.{LONGEST_STREAM, Stands}
+use Rattle.gts_accum.proofs.Cited.{◌≡◌, ◌≤◌, ◌-◌, ◌++◌, ℕ, List, length, LONGEST_STREAM, Stands}
 use Rattle.gts_accum.proofs.packing.pack.Given as goal
 
 -- the bytes so far were taken

@@ -1,7 +1,4 @@
-use Rattle.std.proofs.Common.{◌≤◌, ◌++◌, ℕ, List, take, Result, Err, Ok, subst, ◌∙◌, append_assoc, arith, rules}
-use Rattle.std.proofs.lemmas.List.{length-append, length-take-le}
-use Rattle.std.proofs.lemmas.Grind.{common_steps}
-use Rattle.gts_accum.specs.Cited.{Failed, Stands, Tells, entries_text, messages_of, on, signs_of_step}
+use Rattle.gts_accum.proofs.Cited.{◌≤◌, ◌++◌, ℕ, List, take, Result, Err, Ok, subst, ◌∙◌, append_assoc, arith, rules, length-append, length-take-le, common_steps, Failed, Stands, Tells, entries_text, messages_of, on, signs_of_step}
 use Rattle.gts_accum.proofs.PackLemmas.{IsStep, piece_more, piece_lost, piece_unsaid, rest_of_piece}
 use Rattle.gts_accum.proofs.packing.take_piece.Goals as goal
 

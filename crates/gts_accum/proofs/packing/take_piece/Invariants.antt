@@ -1,5 +1,4 @@
-use Rattle.std.proofs.Common.{◌≡◌, ◌+◌, ◌++◌, ℕ, List, length}
-use Rattle.gts_accum.specs.Cited.{Call, Stands}
+use Rattle.gts_accum.proofs.Cited.{◌≡◌, ◌+◌, ◌++◌, ℕ, List, length, Call, Stands}
 use Rattle.gts_accum.proofs.packing.take_piece.Given as goal
 
 -- the bytes before the rest were taken

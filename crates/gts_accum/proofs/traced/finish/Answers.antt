@@ -1,5 +1,4 @@
-use Rattle.std.proofs.Common.{ℕ, List, [], ◌++◌, length, take, ap, ◌∙◌, arith}
-use Rattle.std.proofs.lemmas.List.{length-append, length-take}
+use Rattle.gts_accum.proofs.Cited.{ℕ, List, [], ◌++◌, length, take, ap, ◌∙◌, arith, length-append, length-take}
 use Rattle.gts_accum.specs.Unpacking.{capture_left}
 use Rattle.gts_accum.proofs.PassingLemmas.{passes-both}
 use Rattle.gts_accum.proofs.traced.finish.Goals as goal

@@ -1,11 +1,9 @@
-use Rattle.std.proofs.Common.{ℕ, ◌≤◌, List, length, sym, ap, subst, arith}
+use Rattle.gts_accum.proofs.Cited.{ℕ, ◌≤◌, List, length, sym, ap, subst, arith, IsLeft, IsPlaceMet, Journaled, ReplayEnd, StandsFor, UnpackEnd, Unpacks, badplace, capture_left, captured, common_steps}
 use Rattle.gts_replay.specs.Cited.{Ends}
 use Rattle.gts_event.specs.declared.event.Entry.{Entry}
-use Rattle.gts_accum.specs.Cited.{IsLeft, IsPlaceMet, Journaled, ReplayEnd, StandsFor, UnpackEnd, Unpacks, badplace, capture_left, captured}
 use Rattle.gts_accum.proofs.UnpackLemmas.{from-end, from-cut, cause-end, cause-cut}
 use Rattle.gts_accum.proofs.unpacking.unpack_of.Goals as goal
 use Rattle.gts_accum.proofs.unpacking.unpack_of.Goals.{in-Capture, in_default}
-use Rattle.std.proofs.lemmas.Grind.{common_steps}
 
 pub returns-clause-ends : goal.returns-clause-ends
 returns-clause-ends g c =

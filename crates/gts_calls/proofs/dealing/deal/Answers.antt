@@ -1,7 +1,6 @@
 use Rattle.gts_calls.proofs.HeardLemmas.{heard_goes, lost_goes}
 use Rattle.gts_calls.proofs.dealing.deal.Goals as goal
-use Rattle.std.proofs.lemmas.Grind.{common_steps}
-use Rattle.std.proofs.Common.{arith}
+use Rattle.gts_calls.proofs.Cited.{common_steps, arith}
 
 pub returns-in-Frame-clause-goes : goal.returns-in-Frame-clause-goes
 returns-in-Frame-clause-goes g c = grind (arith, common_steps, heard_goes)

@@ -1,9 +1,7 @@
-use Rattle.std.proofs.Common.{◌≡◌, ◌-◌, ℕ, true, false, List, length, take, drop, sym, ap, subst, ◌∙◌, arith, length-drop}
-use Rattle.gts_calls.specs.Cited.{All, Entry, FeedEnd, GoesFed, GoesOver, HasCallCause, IsShortAt, answer_of, events_of_signs, is_all, signs_of_step}
+use Rattle.gts_calls.proofs.Cited.{◌≡◌, ◌-◌, ℕ, true, false, List, length, take, drop, sym, ap, subst, ◌∙◌, arith, length-drop, All, Entry, FeedEnd, GoesFed, GoesOver, HasCallCause, IsShortAt, answer_of, events_of_signs, is_all, signs_of_step, common_steps}
 use Rattle.gts_calls.proofs.OverLemmas.{Held, held_first, held_more, goes_first, goes_more, caused_later, is_that}
 use Rattle.gts_calls.proofs.ReadingLemmas.{slice_from, taken_more}
 use Rattle.gts_calls.proofs.feeding.feed_behind.Goals as goal
-use Rattle.std.proofs.lemmas.Grind.{common_steps}
 
 pub loop-taken-init : goal.loop-taken-init
 loop-taken-init g c = grind (arith, common_steps, held_first, goes_first)

@@ -1,5 +1,4 @@
-use Rattle.std.proofs.Common.{◌≡◌, ◌≤◌, ◌-◌, length, take}
-use Rattle.gts_calls.specs.Cited.{GoesOver, HasCallCause, IsShortAt, answer_of}
+use Rattle.gts_calls.proofs.Cited.{◌≡◌, ◌≤◌, ◌-◌, length, take, GoesOver, HasCallCause, IsShortAt, answer_of}
 use Rattle.gts_calls.proofs.OverLemmas.{Held}
 use Rattle.gts_calls.proofs.feeding.feed_behind.Given as goal
 

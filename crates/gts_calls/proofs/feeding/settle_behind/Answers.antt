@@ -1,7 +1,6 @@
 use Rattle.gts_calls.proofs.SettlingLemmas.{settles_none, settles_done, settles_failed}
 use Rattle.gts_calls.proofs.feeding.settle_behind.Goals as goal
-use Rattle.std.proofs.lemmas.Grind.{common_steps}
-use Rattle.std.proofs.Common.{arith}
+use Rattle.gts_calls.proofs.Cited.{common_steps, arith}
 
 pub returns-then-not-is_done-clause-settles : goal.returns-then-not-is_done-clause-settles
 returns-then-not-is_done-clause-settles g c = grind (arith, common_steps, settles_none)

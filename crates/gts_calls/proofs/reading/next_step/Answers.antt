@@ -1,4 +1,4 @@
-use Rattle.std.proofs.Common.{◌≡◌, ◌<◌, ◌-◌, ◌++◌, ℕ, false, List, length, take, drop, sym, ap, subst, ◌∙◌, arith, length-drop}
+use Rattle.gts_calls.proofs.Cited.{◌≡◌, ◌<◌, ◌-◌, ◌++◌, ℕ, false, List, length, take, drop, sym, ap, subst, ◌∙◌, arith, length-drop}
 use Rattle.gts_calls.specs.Reading.{is_event as shows_event, Reads}
 use Rattle.gts_calls.proofs.ReadingLemmas.{reads_taken, reads_more, slice_from, taken_more}
 use Rattle.gts_calls.proofs.reading.next_step.Goals as goal

@@ -1,5 +1,4 @@
-use Rattle.std.proofs.Common.{◌≡◌, ◌<◌, ◌≤◌, ◌-◌, ℕ, List, length, take}
-use Rattle.gts_calls.specs.Cited.{HasMessage, Reads, held_in}
+use Rattle.gts_calls.proofs.Cited.{◌≡◌, ◌<◌, ◌≤◌, ◌-◌, ℕ, List, length, take, HasMessage, Reads, held_in}
 use Rattle.gts_calls.proofs.reading.next_step.Given as goal
 
 -- the bytes so far came to this step

@@ -1,4 +1,4 @@
-use Rattle.std.proofs.Common.{◌-◌, sym, arith}
+use Rattle.gts_checkpoint.proofs.Cited.{◌-◌, sym, arith}
 use Rattle.gts_checkpoint.proofs.AscendingLemmas.{ascends-from, ascends-not}
 use Rattle.gts_checkpoint.proofs.ascending.ascend.Goals as goal
 

@@ -1,6 +1,4 @@
-use Rattle.std.proofs.Common.{◌∙◌}
-use Rattle.std.proofs.lemmas.List.Sorted.{searched}
-use Rattle.gts_event.proofs.AmongLemmas.{has_searched}
+use Rattle.gts_checkpoint.proofs.Cited.{◌∙◌, searched, has_searched}
 use Rattle.gts_checkpoint.proofs.ascending.is_among.Goals as goal
 
 pub returns : goal.returns

@@ -1,10 +1,6 @@
-use Rattle.std.proofs.Common.{◌+◌, ◌-◌, ◌/◌, arith}
-use Rattle.std.proofs.lemmas.Option.{slice_get-get_or}
-use Rattle.gts_checkpoint.specs.Sound.{positions}
-use Rattle.gts_event.proofs.AmongLemmas.{has_not}
+use Rattle.gts_checkpoint.proofs.Cited.{◌+◌, ◌-◌, ◌/◌, arith, slice_get-get_or, positions, has_not, common_steps}
 use Rattle.gts_checkpoint.proofs.AscendingLemmas.{position-at, positions-length, below-half, above-half, found_none}
 use Rattle.gts_checkpoint.proofs.ascending.place_of.Goals as goal
-use Rattle.std.proofs.lemmas.Grind.{common_steps}
 
 pub returns-then-here-position-clause-found : goal.returns-then-here-position-clause-found
 returns-then-here-position-clause-found c = grind (arith, common_steps, position-at, slice_get-get_or, positions-length)

@@ -1,5 +1,4 @@
-use Rattle.std.proofs.Common.{ℕ, ◌<◌, ◌≤◌, ◌-◌, length, get_or}
-use Rattle.gts_checkpoint.specs.Sound.{positions}
+use Rattle.gts_checkpoint.proofs.Cited.{ℕ, ◌<◌, ◌≤◌, ◌-◌, length, get_or, positions}
 use Rattle.gts_checkpoint.proofs.ascending.place_of.Given as goal
 
 abbrev pub invariant-loop-low : goal.invariant-loop-low

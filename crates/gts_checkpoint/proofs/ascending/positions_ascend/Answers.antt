@@ -1,7 +1,6 @@
-use Rattle.std.proofs.Common.{arith}
+use Rattle.gts_checkpoint.proofs.Cited.{arith, common_steps}
 use Rattle.gts_checkpoint.proofs.AscendingLemmas.{ascends-from, ascends-not, rise-more, position-at, positions-length}
 use Rattle.gts_checkpoint.proofs.ascending.positions_ascend.Goals as goal
-use Rattle.std.proofs.lemmas.Grind.{common_steps}
 
 pub returns-then-bulletins-i : goal.returns-then-bulletins-i
 returns-then-bulletins-i c = grind (arith, common_steps, positions-length, position-at, ascends-not)

@@ -1,4 +1,4 @@
-use Rattle.gts_checkpoint.specs.Sound.{positions}
+use Rattle.gts_checkpoint.proofs.Cited.{positions}
 use Rattle.gts_checkpoint.proofs.AscendingLemmas.{RiseTo}
 use Rattle.gts_checkpoint.proofs.ascending.positions_ascend.Given as goal
 

@@ -1,4 +1,4 @@
-use Rattle.std.proofs.lemmas.List.Sorted.{IsNonDecreasingBy-from_sort}
+use Rattle.gts_checkpoint.proofs.Cited.{IsNonDecreasingBy-from_sort}
 use Rattle.gts_checkpoint.proofs.ascending.sorted.Goals as goal
 
 pub returns-clause-order : goal.returns-clause-order

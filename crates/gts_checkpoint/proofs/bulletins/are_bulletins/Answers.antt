@@ -1,8 +1,4 @@
-use Rattle.std.proofs.Common.{sym, ◌∙◌, rules}
-use Rattle.std.proofs.lemmas.Iterator.{YieldsList-from_slice}
-use Rattle.std.proofs.lemmas.Iterator.Search.{all_from_yields_List}
-use Rattle.std.proofs.lemmas.List.Folds.{list_all-map}
-use borrow.Author.Tests.{tests}
+use Rattle.gts_checkpoint.proofs.Cited.{sym, ◌∙◌, rules, YieldsList-from_slice, all_from_yields_List, list_all-map, tests}
 use Rattle.gts_checkpoint.specs.Sound.{is_bulletin, bulletin_of}
 use Rattle.gts_checkpoint.proofs.bulletins.are_bulletins.Goals as goal
 

@@ -1,5 +1,4 @@
-use Rattle.std.proofs.Common.{◌≡◌, true, take, map}
-use Rattle.gts_checkpoint.specs.Cited.{bulletin_of, is_there, list_all}
+use Rattle.gts_checkpoint.proofs.Cited.{◌≡◌, true, take, map, bulletin_of, is_there, list_all}
 use Rattle.gts_checkpoint.proofs.bulletins.are_there.Given as goal
 
 abbrev pub invariant-loop-number : goal.invariant-loop-number

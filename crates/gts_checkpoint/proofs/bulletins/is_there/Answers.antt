@@ -1,5 +1,5 @@
-use Rattle.std.proofs.Common.{map, sym, ◌∙◌}
-use Rattle.gts_checkpoint.specs.Sound.{positions, bulletin_of}
+use Rattle.gts_checkpoint.proofs.Cited.{map, sym, ◌∙◌, positions}
+use Rattle.gts_checkpoint.specs.Sound.{bulletin_of}
 use Rattle.gts_checkpoint.proofs.NamedLemmas.{has-found, there-has}
 use Rattle.gts_checkpoint.proofs.bulletins.is_there.Goals as goal
 

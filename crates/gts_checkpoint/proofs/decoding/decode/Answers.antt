@@ -1,6 +1,4 @@
-use Rattle.std.proofs.Common.{◌≡◌, ◌+◌, ◌*◌, ◌^◌, ◌<◌, ◌≤◌, ℕ, List, Option, length, sym, ap, subst, ◌∙◌, arith, IfSome, IfNone}
-use Rattle.gts_checkpoint.specs.Cited.{FindsText, checkpoint_text, draw_size, first_of, need_of, seal_size, unowed, written}
-use Rattle.gts_event.specs.declared.values.Need.{Need}
+use Rattle.gts_checkpoint.proofs.Cited.{◌≡◌, ◌+◌, ◌*◌, ◌^◌, ◌<◌, ◌≤◌, ℕ, List, Option, length, sym, ap, subst, ◌∙◌, arith, IfSome, IfNone, FindsText, checkpoint_text, draw_size, first_of, need_of, seal_size, unowed, written, Need}
 use Rattle.gts_checkpoint.proofs.ReadLemmas.{stands_there, counts_there, can_begin}
 use Rattle.gts_checkpoint.proofs.DecodeLemmas.{bytes_there, no_text, not_whole, no_limit, no_history, is_checkpoint}
 use Rattle.gts_checkpoint.proofs.decoding.decode.Goals as goal

@@ -1,10 +1,7 @@
-use Rattle.std.proofs.Common.{◌≡◌, ◌+◌, ◌-◌, ◌*◌, ◌^◌, ◌<◌, ◌≤◌, ℕ, Option, sym, ap, subst, ◌∙◌, arith, IfSome, IfNone}
-use Rattle.gts_checkpoint.specs.Cited.{CanBegin, Damaged, FindsText, bytes_from, draw_size, first_of, need_of, seal_size, unowed}
-use Rattle.gts_event.specs.declared.values.Need.{Need}
+use Rattle.gts_checkpoint.proofs.Cited.{◌≡◌, ◌+◌, ◌-◌, ◌*◌, ◌^◌, ◌<◌, ◌≤◌, ℕ, Option, sym, ap, subst, ◌∙◌, arith, IfSome, IfNone, CanBegin, Damaged, FindsText, bytes_from, draw_size, first_of, need_of, seal_size, unowed, Need, common_steps}
 use Rattle.gts_checkpoint.proofs.ReadLemmas.{none_there, stands_there, counts_there, can_begin, no_room, not_sound, no_seal, compares, has_read, size_there, no_damage}
 use Rattle.gts_checkpoint.proofs.SealLemmas.{last_is}
 use Rattle.gts_checkpoint.proofs.reading.read.Goals as goal
-use Rattle.std.proofs.lemmas.Grind.{common_steps}
 
 pub returns-in_err-need-clause-fault : goal.returns-in_err-need-clause-fault
 returns-in_err-need-clause-fault g c = grind (arith, common_steps, no_damage)

@@ -1,9 +1,6 @@
-use Rattle.std.proofs.Common.{◌≡◌, ◌+◌, ◌<◌, Ok, length, sym, ap, ◌∙◌, arith}
-use Rattle.std.proofs.lemmas.List.{length-take-le}
-use Rattle.gts_checkpoint.specs.Cited.{bytes_from, held, seal_size}
+use Rattle.gts_checkpoint.proofs.Cited.{◌≡◌, ◌+◌, ◌<◌, Ok, length, sym, ap, ◌∙◌, arith, length-take-le, bytes_from, held, seal_size, common_steps}
 use Rattle.gts_checkpoint.proofs.SealLemmas.{sealed_there, sealed_not, same_place, last_is}
 use Rattle.gts_checkpoint.proofs.reading.seal_at.Goals as goal
-use Rattle.std.proofs.lemmas.Grind.{common_steps}
 
 pub returns-then-not-branch-clause-stands : goal.returns-then-not-branch-clause-stands
 returns-then-not-branch-clause-stands g c = λ observed.

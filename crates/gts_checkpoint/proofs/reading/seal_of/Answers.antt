@@ -1,9 +1,6 @@
-use Rattle.std.proofs.Common.{◌≡◌, ◌+◌, ◌≤◌, ℕ, List, Ok, length, take, ap, subst, ◌∙◌, arith}
-use Rattle.std.proofs.lemmas.List.{length-take-le}
-use Rattle.gts_checkpoint.specs.Cited.{BeginsWith, Seals, bytes_from, held}
+use Rattle.gts_checkpoint.proofs.Cited.{◌≡◌, ◌+◌, ◌≤◌, ℕ, List, Ok, length, take, ap, subst, ◌∙◌, arith, length-take-le, BeginsWith, Seals, bytes_from, held, common_steps}
 use Rattle.gts_checkpoint.proofs.SealLemmas.{piece_there, same_place, enough}
 use Rattle.gts_checkpoint.proofs.reading.seal_of.Goals as goal
-use Rattle.std.proofs.lemmas.Grind.{common_steps}
 
 pub loop-done-preserved : goal.loop-done-preserved
 loop-done-preserved g c =

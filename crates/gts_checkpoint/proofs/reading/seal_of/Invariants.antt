@@ -1,5 +1,4 @@
-use Rattle.std.proofs.Common.{◌≡◌, ◌-◌, ◌≤◌, take}
-use Rattle.gts_checkpoint.specs.Cited.{Seals, bytes_from, held}
+use Rattle.gts_checkpoint.proofs.Cited.{◌≡◌, ◌-◌, ◌≤◌, take, Seals, bytes_from, held}
 use Rattle.gts_checkpoint.proofs.reading.seal_of.Given as goal
 
 -- the first bytes were added

@@ -1,5 +1,4 @@
-use Rattle.std.proofs.Common.{◌≡◌, true, not, take}
-use Rattle.gts_checkpoint.specs.Cited.{has, list_all}
+use Rattle.gts_checkpoint.proofs.Cited.{◌≡◌, true, not, take, has, list_all}
 use Rattle.gts_checkpoint.proofs.sound.are_apart.Given as goal
 
 abbrev pub invariant-loop-number : goal.invariant-loop-number

@@ -1,10 +1,8 @@
-use Rattle.std.proofs.Common.{◌≡◌, List, length, slice_get, Some, refl, sym, ap, ◌∙◌, arith}
-use Rattle.std.proofs.lemmas.Option.{slice_get_read}
+use Rattle.gts_checkpoint.proofs.Cited.{◌≡◌, List, length, slice_get, Some, refl, sym, ap, ◌∙◌, arith, slice_get_read, is_circuit_sound, common_steps}
+use Rattle.gts_checkpoint.specs.Sound.{circuit_need_of, need_of}
 use Rattle.gts_event.specs.declared.values.CircuitNeed as values
-use Rattle.gts_checkpoint.specs.Sound.{is_circuit_sound, circuit_need_of, need_of}
 use Rattle.gts_checkpoint.proofs.SoundLemmas.{rows-all, get-below, circuits-fail, circuits-more}
 use Rattle.gts_checkpoint.proofs.sound.are_circuits_sound.Goals as goal
-use Rattle.std.proofs.lemmas.Grind.{common_steps}
 
 pub returns-then-not-branch : goal.returns-then-not-branch
 returns-then-not-branch c = grind (arith, common_steps, circuits-fail)

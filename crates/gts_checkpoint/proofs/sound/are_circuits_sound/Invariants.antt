@@ -1,6 +1,6 @@
-use Rattle.std.proofs.Common.{◌≡◌, ℕ, ◌<◌, true, slice_get, Some}
+use Rattle.gts_checkpoint.proofs.Cited.{◌≡◌, ℕ, ◌<◌, true, slice_get, Some, is_circuit_sound}
 use Rattle.gts_event.specs.declared.values.CircuitNeed.{CircuitNeed}
-use Rattle.gts_checkpoint.specs.Sound.{Circuit, is_circuit_sound, circuit_need_of, need_of}
+use Rattle.gts_checkpoint.specs.Sound.{Circuit, circuit_need_of, need_of}
 use Rattle.gts_checkpoint.proofs.sound.are_circuits_sound.Given as goal
 
 abbrev pub invariant-loop-c : goal.invariant-loop-c

@@ -1,5 +1,4 @@
-use Rattle.std.proofs.Common.{◌≡◌, true, map, take}
-use Rattle.gts_checkpoint.specs.Cited.{circuit_need_of, is_needed, list_all}
+use Rattle.gts_checkpoint.proofs.Cited.{◌≡◌, true, map, take, circuit_need_of, is_needed, list_all}
 use Rattle.gts_checkpoint.proofs.sound.are_needed.Given as goal
 
 abbrev pub invariant-loop-bulletin : goal.invariant-loop-bulletin

@@ -1,5 +1,4 @@
-use Rattle.std.proofs.Common.{◌≡◌, ℕ, true, false, not, List, map, refl, sym, ap, ◌∙◌, inl, inr}
-use Rattle.gts_checkpoint.specs.Cited.{ascends, bulletin_of, has, is_there, list_all}
+use Rattle.gts_checkpoint.proofs.Cited.{◌≡◌, ℕ, true, false, not, List, map, refl, sym, ap, ◌∙◌, inl, inr, ascends, bulletin_of, has, is_there, list_all}
 use Rattle.gts_checkpoint.proofs.SoundLemmas.{positions-fail, positions-pass}
 use Rattle.gts_checkpoint.proofs.sound.has_positions.Goals.{then-not-ascend-via-then-not-ascend, then-not-ascend-via-else-not-ascend+then-not-ascend-2, then-not-ascend-via-else-not-ascend+else-not-ascend-2+then-not-are_apart}
 use Rattle.gts_checkpoint.proofs.sound.has_positions.Goals as goal

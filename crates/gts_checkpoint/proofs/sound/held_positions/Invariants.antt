@@ -1,4 +1,4 @@
-use Rattle.std.proofs.Common.{◌≡◌, ℕ, map, take}
+use Rattle.gts_checkpoint.proofs.Cited.{◌≡◌, ℕ, map, take}
 use Rattle.gts_checkpoint.specs.Sound.{has, is_held, circuit_need_of}
 use Rattle.gts_checkpoint.proofs.sound.held_positions.Given as goal
 

@@ -1,5 +1,4 @@
-use Rattle.std.proofs.Common.{◌≡◌, ℕ, Bool, true, List, map, sym, ap, ◌∙◌}
-use Rattle.gts_checkpoint.specs.Cited.{Circuit, IsJudged, bulletin_of, circuit_need_of, circuit_of_row, has_counts, has_positions, is_there, need_of}
+use Rattle.gts_checkpoint.proofs.Cited.{◌≡◌, ℕ, Bool, true, List, map, sym, ap, ◌∙◌, Circuit, IsJudged, bulletin_of, circuit_need_of, circuit_of_row, has_counts, has_positions, is_there, need_of}
 use Rattle.gts_event.specs.declared.values.Bulletin as values
 use Rattle.gts_checkpoint.proofs.SoundLemmas.{circuit-is, positions-agree, if-ok}
 use Rattle.gts_checkpoint.proofs.sound.is_circuit_sound.Goals as goal

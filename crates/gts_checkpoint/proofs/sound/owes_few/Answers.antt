@@ -1,9 +1,4 @@
-use Rattle.std.proofs.Common.{◌≡◌, Bool, true, ◌&&◌, nat_le, nat_lt, length, sym, ap, ◌∙◌, arith, rules}
-use Rattle.gts_checkpoint.specs.Cited.{circuit_need_of, is_kept, list_all, most_owed}
-use Rattle.std.proofs.lemmas.Bool.{le-leb}
-use Rattle.std.proofs.lemmas.Iterator.{YieldsList-from_slice}
-use Rattle.std.proofs.lemmas.Iterator.Search.{all_from_yields_List}
-use borrow.Author.Tests.{tests}
+use Rattle.gts_checkpoint.proofs.Cited.{◌≡◌, Bool, true, ◌&&◌, nat_le, nat_lt, length, sym, ap, ◌∙◌, arith, rules, circuit_need_of, is_kept, list_all, most_owed, le-leb, YieldsList-from_slice, all_from_yields_List, tests}
 use Rattle.gts_checkpoint.proofs.SoundLemmas.{all-agree, kept-is}
 use Rattle.gts_checkpoint.proofs.sound.owes_few.Goals as goal
 

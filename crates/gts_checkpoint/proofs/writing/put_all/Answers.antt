@@ -1,13 +1,9 @@
-use Rattle.std.proofs.Common.{◌≡◌, ℕ, ap, subst, ◌∙◌}
-use Rattle.std.proofs.lemmas.List.{append-nil}
-use Rattle.gts_checkpoint.specs.Cited.{OnlyOn}
+use Rattle.gts_checkpoint.proofs.Cited.{◌≡◌, ℕ, ap, subst, ◌∙◌, append-nil, OnlyOn, common_steps, arith}
 use Rattle.gts_checkpoint.specs.SealingWriter as writers
 use Rattle.gts_checkpoint.proofs.AloneLemmas.{on_on}
 use Rattle.gts_checkpoint.proofs.WriterLemmas.{put_more, put_apart}
 use Rattle.gts_checkpoint.proofs.NeedLemmas.{file_has}
 use Rattle.gts_checkpoint.proofs.writing.put_all.Goals as goal
-use Rattle.std.proofs.lemmas.Grind.{common_steps}
-use Rattle.std.proofs.Common.{arith}
 
 pub returns-in_err-put-clause-alone : goal.returns-in_err-put-clause-alone
 returns-in_err-put-clause-alone g c = grind (arith, common_steps, on_on)

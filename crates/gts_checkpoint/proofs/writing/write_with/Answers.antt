@@ -1,5 +1,4 @@
-use Rattle.std.proofs.Common.{◌≡◌, ◌++◌, ℕ, List, [], ◌∷◌, refl, sym, ap, subst, ◌∙◌}
-use Rattle.gts_checkpoint.specs.Cited.{Cuts, OnlyOn, Syncs, Writes, checkpoint_text, closed_gate, header_text, held, need_of, seal, seen, written}
+use Rattle.gts_checkpoint.proofs.Cited.{◌≡◌, ◌++◌, ℕ, List, [], ◌∷◌, refl, sym, ap, subst, ◌∙◌, Cuts, OnlyOn, Syncs, Writes, checkpoint_text, closed_gate, header_text, held, need_of, seal, seen, written}
 use Rattle.gts_checkpoint.proofs.NeedLemmas.{cut_empty, has_written, wrote_front, file_is}
 use Rattle.gts_checkpoint.proofs.AloneLemmas.{on_on, one_on}
 use Rattle.gts_checkpoint.proofs.writing.write_with.Goals as goal

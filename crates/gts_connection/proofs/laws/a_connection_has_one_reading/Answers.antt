@@ -1,4 +1,4 @@
-use Rattle.std.proofs.Common.{sym, ◌∙◌}
+use Rattle.gts_connection.proofs.Cited.{sym, ◌∙◌}
 use Rattle.gts_connection.proofs.StreamLemmas.{connection-is, connection-unique, front-not_lost, not_lost-front}
 use Rattle.gts_connection.proofs.laws.a_connection_has_one_reading.Goals as goal
 

@@ -1,5 +1,4 @@
-use Rattle.std.proofs.Common.{refl, [], ◌∷◌, arith}
-use Rattle.gts_connection.specs.Cited.{Whole, dec, readable}
+use Rattle.gts_connection.proofs.Cited.{refl, [], ◌∷◌, arith, Whole, dec, readable}
 use Rattle.gts_connection.proofs.worked.a_capture_is_read_through_its_end.Goals as goal
 
 pub returns : goal.returns

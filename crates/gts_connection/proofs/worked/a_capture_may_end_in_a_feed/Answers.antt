@@ -1,6 +1,4 @@
-use Rattle.std.proofs.Common.{refl, [], take, arith}
-use Rattle.gts_connection.specs.Cited.{EndsInFeed, dec, readable}
-use Rattle.gts_connection.specs.Worked.{frame_1}
+use Rattle.gts_connection.proofs.Cited.{refl, [], take, arith, EndsInFeed, dec, readable, frame_1}
 use Rattle.gts_connection.proofs.worked.a_capture_may_end_in_a_feed.Goals as goal
 
 pub returns : goal.returns

@@ -1,5 +1,4 @@
-use Rattle.std.proofs.Common.{refl, arith, codes}
-use Rattle.gts_connection.specs.Cited.{EndsInHead, FeedHead, dec, readable}
+use Rattle.gts_connection.proofs.Cited.{refl, arith, codes, EndsInHead, FeedHead, dec, readable}
 use Rattle.gts_connection.proofs.worked.a_capture_may_end_in_a_head.Goals as goal
 
 pub returns : goal.returns

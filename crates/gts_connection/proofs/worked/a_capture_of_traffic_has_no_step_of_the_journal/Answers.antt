@@ -1,6 +1,4 @@
-use Rattle.std.proofs.Common.{◌≡◌, ℕ, List, [], ◌∷◌, get_or, refl, ap, arith, codes}
-use Rattle.gts_connection.specs.Cited.{Bad, CompactHead, DrainHead, EndHead, FeedHead, Head, IsHeadOf, ReopenHead, RestartHead, TakeHead, Traffic, dec, head_text, readable}
-use Rattle.gts_event.specs.Worked.{two}
+use Rattle.gts_connection.proofs.Cited.{◌≡◌, ℕ, List, [], ◌∷◌, get_or, refl, ap, arith, codes, Bad, CompactHead, DrainHead, EndHead, FeedHead, Head, IsHeadOf, ReopenHead, RestartHead, TakeHead, Traffic, dec, head_text, readable, two}
 use Rattle.gts_connection.proofs.worked.a_capture_of_traffic_has_no_step_of_the_journal.Goals as goal
 
 -- no head begins so

@@ -1,6 +1,4 @@
-use Rattle.std.proofs.Common.{[], refl, arith}
-use Rattle.gts_connection.specs.Cited.{Whole, bare_group_at, bare_heading_at, body_at, dec, heading_at, heading_text, message_group_at, number_at, plain_heading_at, readable, request_at, split_at, text_at}
-use Rattle.std.specs.Fmt.{digits}
+use Rattle.gts_connection.proofs.Cited.{[], refl, arith, Whole, bare_group_at, bare_heading_at, body_at, dec, heading_at, heading_text, message_group_at, number_at, plain_heading_at, readable, request_at, split_at, text_at, digits}
 use Rattle.gts_connection.proofs.worked.a_compaction_comes_behind_so_many_entries.Goals as goal
 
 pub returns : goal.returns

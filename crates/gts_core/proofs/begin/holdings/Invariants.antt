@@ -1,5 +1,4 @@
-use Rattle.std.proofs.Common.{◌≡◌, map, take}
-use Rattle.gts_core.specs.Cited.{circuit_need_of}
+use Rattle.gts_core.proofs.Cited.{◌≡◌, map, take, circuit_need_of}
 use Rattle.gts_core.proofs.begin.holdings.Given as goal
 
 abbrev pub invariant-loop-circuit : goal.invariant-loop-circuit

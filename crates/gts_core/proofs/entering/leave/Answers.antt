@@ -1,9 +1,6 @@
-use Rattle.std.proofs.Common.{◌≡◌, None, arith}
-use Rattle.std.proofs.lemmas.Bool.{cases_lt}
-use Rattle.gts_core.specs.Cited.{stored_at}
+use Rattle.gts_core.proofs.Cited.{◌≡◌, None, arith, cases_lt, stored_at, common_steps}
 use Rattle.gts_core.proofs.entering.leave.Goals as goal
 use Rattle.gts_core.proofs.entering.leave.Goals.{Else-is_some}
-use Rattle.std.proofs.lemmas.Grind.{common_steps}
 
 pub release-requires : goal.release-requires
 release-requires c = grind (arith, common_steps, cases_lt)

@@ -1,6 +1,5 @@
-use Rattle.std.proofs.Common.{subst}
+use Rattle.gts_core.proofs.Cited.{subst, Reads, message_weighed, split_at}
 use Rattle.gts_message.specs.Message.{parts_of}
-use Rattle.gts_core.specs.Cited.{Reads, message_weighed, split_at}
 use Rattle.gts_core.proofs.WeighLemmas.{text_short}
 use Rattle.gts_core.proofs.judging.judge_in.Goals as goal
 

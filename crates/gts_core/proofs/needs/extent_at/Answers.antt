@@ -1,7 +1,4 @@
-use Rattle.std.proofs.Common.{◌≡◌, ◌-◌, ◌^◌, ◌++◌, ℕ, List, length, take, flat_map, ap, sym, ◌∙◌, arith, min}
-use Rattle.std.proofs.lemmas.List.{length-map, take_all}
-use Rattle.gts_core.specs.Cited.{Bulletin, CircuitNeed, bulletins_in, circuit_need_of}
-use Rattle.gts_event.proofs.ExtentLemmas.{flat_of}
+use Rattle.gts_core.proofs.Cited.{◌≡◌, ◌-◌, ◌^◌, ◌++◌, ℕ, List, length, take, flat_map, ap, sym, ◌∙◌, arith, min, length-map, take_all, Bulletin, CircuitNeed, bulletins_in, circuit_need_of, flat_of}
 use Rattle.gts_core.proofs.needs.extent_at.Goals as goal
 
 pub returns : goal.returns

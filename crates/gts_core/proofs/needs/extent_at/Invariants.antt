@@ -1,5 +1,4 @@
-use Rattle.std.proofs.Common.{◌≡◌, ◌-◌, ◌^◌, length, flat_map, take, min}
-use Rattle.gts_core.specs.Cited.{bulletins_in}
+use Rattle.gts_core.proofs.Cited.{◌≡◌, ◌-◌, ◌^◌, length, flat_map, take, min, bulletins_in}
 use Rattle.gts_core.proofs.needs.extent_at.Given as goal
 
 abbrev pub invariant-loop-position : goal.invariant-loop-position

@@ -1,5 +1,4 @@
-use Rattle.std.proofs.Common.{rules, ◌≡◌, ℕ, List, refl, map, subst}
-use Rattle.gts_core.specs.Cited.{AreNeeded, IsExtentOf, bulletins_in, circuit_need_of, need_at}
+use Rattle.gts_core.proofs.Cited.{rules, ◌≡◌, ℕ, List, refl, map, subst, AreNeeded, IsExtentOf, bulletins_in, circuit_need_of, need_at}
 use Rattle.gts_event.specs.declared.values.CircuitNeed.{CircuitNeed}
 use Rattle.gts_core.proofs.needs.extent_in.Goals as goal
 

@@ -1,7 +1,4 @@
-use Rattle.std.proofs.Common.{◌≡◌, ℕ, ◌+◌, ◌≤◌, List, length, get_or, take, drop, refl, sym, ap, subst, ◌∙◌, arith}
-use Rattle.std.proofs.lemmas.Bool.{true≢false}
-use Rattle.std.proofs.lemmas.Option.{get_or_from_slice_get}
-use Rattle.gts_count.specs.Cited.{NotesDraw, has_row, key_of_frame}
+use Rattle.gts_count.proofs.Cited.{◌≡◌, ℕ, ◌+◌, ◌≤◌, List, length, get_or, take, drop, refl, sym, ap, subst, ◌∙◌, arith, true≢false, get_or_from_slice_get, NotesDraw, has_row, key_of_frame}
 use Rattle.gts_count.proofs.counting.draw.Goals as goal
 use Rattle.gts_count.proofs.counting.draw.Goals.{else-there-via-then-there+else-has_row, else-there-via-else-there}
 

@@ -1,5 +1,4 @@
-use Rattle.std.proofs.Common.{◌≡◌, ℕ, List, length, sym, ap, ◌∙◌}
-use Rattle.gts_count.specs.Cited.{Arrival, parts_of}
+use Rattle.gts_count.proofs.Cited.{◌≡◌, ℕ, List, length, sym, ap, ◌∙◌, Arrival, parts_of}
 use Rattle.gts_count.proofs.KeyLemmas.{key_message}
 use Rattle.gts_count.proofs.counting.heard_in.Goals as goal
 

@@ -1,6 +1,4 @@
-use Rattle.std.proofs.Common.{ap, sym, ◌∙◌}
-use Rattle.std.proofs.lemmas.Result.{err_from_is_err_and}
-use Rattle.gts_count.specs.Cited.{Arrival, has_row}
+use Rattle.gts_count.proofs.Cited.{ap, sym, ◌∙◌, err_from_is_err_and, Arrival, has_row}
 use Rattle.gts_count.proofs.CountingLemmas.{current_counts, left_accepted}
 use Rattle.gts_count.proofs.counting.ready.Goals as goal
 

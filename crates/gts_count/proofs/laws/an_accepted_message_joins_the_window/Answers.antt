@@ -1,7 +1,6 @@
-use Rattle.std.proofs.Common.{arith}
+use Rattle.gts_count.proofs.Cited.{arith, common_steps}
 use Rattle.gts_count.proofs.WindowLemmas.{joins_window, window_goes_on}
 use Rattle.gts_count.proofs.laws.an_accepted_message_joins_the_window.Goals as goal
-use Rattle.std.proofs.lemmas.Grind.{common_steps}
 
 pub returns-clause-empty : goal.returns-clause-empty
 returns-clause-empty c = grind (arith, common_steps)

@@ -1,4 +1,4 @@
-use Rattle.std.proofs.Common.{sym, ◌∙◌}
+use Rattle.gts_count.proofs.Cited.{sym, ◌∙◌}
 use Rattle.gts_count.proofs.RowLemmas.{adds}
 use Rattle.gts_count.proofs.rows.add_row.Goals as goal
 

@@ -1,6 +1,5 @@
-use Rattle.std.proofs.Common.{◌≡◌, ◌+◌, Some, is_some, nat_eq, ap, sym, ◌∙◌}
-use Rattle.gts_count.specs.Cited.{Row, option_copied_mut, pointwise, with_bulletin}
-use Rattle.std.specs.HashMap.{get}
+use Rattle.gts_count.proofs.Cited.{◌≡◌, ◌+◌, Some, is_some, nat_eq, ap, sym, ◌∙◌, Row, option_copied_mut, pointwise, get}
+use Rattle.gts_count.specs.Cited.{with_bulletin}
 use Rattle.gts_count.proofs.RowLemmas.{changed}
 use Rattle.gts_count.proofs.rows.join.Goals as goal
 

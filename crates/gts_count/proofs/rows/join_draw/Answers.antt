@@ -1,6 +1,4 @@
-use Rattle.std.proofs.Common.{◌≡◌, ◌+◌, Some, is_some, nat_eq, refl, ap, sym, ◌∙◌}
-use Rattle.gts_count.specs.Cited.{Row, option_copied_mut, pointwise, with_draw}
-use Rattle.std.specs.HashMap.{get}
+use Rattle.gts_count.proofs.Cited.{◌≡◌, ◌+◌, Some, is_some, nat_eq, refl, ap, sym, ◌∙◌, Row, option_copied_mut, pointwise, with_draw, get}
 use Rattle.gts_count.proofs.RowLemmas.{changed}
 use Rattle.gts_count.proofs.rows.join_draw.Goals as goal
 

@@ -1,4 +1,4 @@
-use Rattle.std.proofs.Common.{◌≡◌, ◌≤◌, ℕ, List, length, take, sym, subst, ◌∙◌}
+use Rattle.gts_count.proofs.Cited.{◌≡◌, ◌≤◌, ℕ, List, length, take, sym, subst, ◌∙◌}
 use Rattle.gts_event.specs.Items.{bulletin_of}
 use Rattle.gts_count.proofs.KeyLemmas.{key_body}
 use Rattle.gts_count.proofs.StartingLemmas.{key_kept, key_new}

@@ -1,7 +1,6 @@
 use Rattle.gts_count.proofs.BeginningLemmas.{start_follows}
 use Rattle.gts_count.proofs.start.counting_of.Goals as goal
-use Rattle.std.proofs.lemmas.Grind.{common_steps}
-use Rattle.std.proofs.Common.{arith}
+use Rattle.gts_count.proofs.Cited.{common_steps, arith}
 
 pub returns-clause-counts : goal.returns-clause-counts
 returns-clause-counts c = grind (arith, common_steps, start_follows)

@@ -1,4 +1,4 @@
-use Rattle.std.proofs.Common.{◌≡◌, map, take}
+use Rattle.gts_count.proofs.Cited.{◌≡◌, map, take}
 use Rattle.gts_directory.specs.Directory.{Circuit}
 use Rattle.gts_count.proofs.start.digits_of.Given as goal
 

@@ -1,5 +1,4 @@
-use Rattle.std.proofs.Common.{List, map, take, sym, subst, IsTrue, is_ok}
-use Rattle.gts_count.specs.Cited.{Bulletin, HasKeys, body_at, bulletin_of}
+use Rattle.gts_count.proofs.Cited.{List, map, take, sym, subst, IsTrue, is_ok, Bulletin, HasKeys, body_at, bulletin_of}
 use Rattle.gts_count.proofs.StartingLemmas.{item_more, all_item}
 use Rattle.gts_count.proofs.start.keys_of.Goals as goal
 

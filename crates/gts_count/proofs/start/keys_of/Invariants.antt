@@ -1,5 +1,4 @@
-use Rattle.std.proofs.Common.{map, take}
-use Rattle.gts_count.specs.Cited.{HasKeys, bulletin_of}
+use Rattle.gts_count.proofs.Cited.{map, take, HasKeys, bulletin_of}
 use Rattle.gts_count.proofs.start.keys_of.Given as goal
 
 abbrev pub invariant-loop-bulletin : goal.invariant-loop-bulletin

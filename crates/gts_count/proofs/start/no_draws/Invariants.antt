@@ -1,5 +1,4 @@
-use Rattle.std.proofs.Common.{◌≡◌, [], map, take}
-use Rattle.gts_count.specs.Cited.{All, Circuit, IsRing, buffer}
+use Rattle.gts_count.proofs.Cited.{◌≡◌, [], map, take, All, Circuit, IsRing, buffer}
 use Rattle.gts_count.proofs.start.no_draws.Given as goal
 
 abbrev pub invariant-loop-c : goal.invariant-loop-c

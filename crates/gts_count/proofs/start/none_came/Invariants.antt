@@ -1,4 +1,4 @@
-use Rattle.std.proofs.Common.{◌≡◌, replicate}
+use Rattle.gts_count.proofs.Cited.{◌≡◌, replicate}
 use Rattle.gts_count.proofs.start.none_came.Given as goal
 
 abbrev pub invariant-loop : goal.invariant-loop

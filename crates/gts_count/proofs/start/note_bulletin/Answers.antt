@@ -1,5 +1,4 @@
-use Rattle.std.proofs.Common.{◌≡◌, ◌≤◌, ℕ, List, length, take, sym, ap, ◌∙◌, subst}
-use Rattle.gts_count.specs.Cited.{Notes, bulletin_of}
+use Rattle.gts_count.proofs.Cited.{◌≡◌, ◌≤◌, ℕ, List, length, take, sym, ap, ◌∙◌, subst, Notes, bulletin_of}
 use Rattle.gts_count.proofs.StartLemmas.{start_key, start_passed, start_joined}
 use Rattle.gts_count.proofs.start.note_bulletin.Goals as goal
 

@@ -1,5 +1,4 @@
-use Rattle.std.proofs.Common.{List, map, take, sym, subst}
-use Rattle.gts_count.specs.Cited.{Bulletin, NotesAll, bulletin_of}
+use Rattle.gts_count.proofs.Cited.{List, map, take, sym, subst, Bulletin, NotesAll, bulletin_of}
 use Rattle.gts_count.proofs.StartingLemmas.{item_more, all_more}
 use Rattle.gts_count.proofs.start.note_bulletins.Goals as goal
 

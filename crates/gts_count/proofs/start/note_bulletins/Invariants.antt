@@ -1,5 +1,4 @@
-use Rattle.std.proofs.Common.{map, take}
-use Rattle.gts_count.specs.Cited.{NotesAll, bulletin_of}
+use Rattle.gts_count.proofs.Cited.{map, take, NotesAll, bulletin_of}
 use Rattle.gts_count.proofs.start.note_bulletins.Given as goal
 
 abbrev pub invariant-loop-bulletin : goal.invariant-loop-bulletin

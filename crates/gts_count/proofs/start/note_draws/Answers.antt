@@ -1,6 +1,5 @@
-use Rattle.std.proofs.Common.{◌≡◌, ℕ, List, length, map, take, sym, ap, subst, ◌∙◌, arith, IsSome}
-use Rattle.gts_count.specs.Cited.{All, CircuitNeed, NotesDraws, NotesKept, circuit_need_of, get, nat_cmp}
-use Rattle.std.proofs.lemmas.List.{length-take, length-map}
+use Rattle.gts_count.proofs.Cited.{◌≡◌, ℕ, List, length, map, take, sym, ap, subst, ◌∙◌, arith, IsSome, All, CircuitNeed, NotesDraws, NotesKept, circuit_need_of, nat_cmp, length-take, length-map}
+use Rattle.gts_count.specs.Cited.{get}
 use Rattle.gts_event.specs.declared.values.CircuitNeed as values
 use Rattle.gts_count.proofs.StartingLemmas.{item_more, draws_more}
 use Rattle.gts_count.proofs.start.note_draws.Goals as goal

@@ -1,5 +1,4 @@
-use Rattle.std.proofs.Common.{map, take}
-use Rattle.gts_count.specs.Cited.{NotesDraws, circuit_need_of}
+use Rattle.gts_count.proofs.Cited.{map, take, NotesDraws, circuit_need_of}
 use Rattle.gts_count.proofs.start.note_draws.Given as goal
 
 abbrev pub invariant-loop-c : goal.invariant-loop-c

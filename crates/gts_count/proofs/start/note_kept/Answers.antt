@@ -1,7 +1,5 @@
-use Rattle.std.proofs.Common.{◌≡◌, ℕ, ◌+◌, List, Some, None, is_some, get_or, take, sym, ap, subst, ◌∙◌}
-use Rattle.gts_count.specs.Cited.{NotesKept, Numbers, get, nat_cmp, option_copied}
-use Rattle.std.proofs.lemmas.Bool.{true≢false}
-use Rattle.std.proofs.lemmas.List.{get_or_default}
+use Rattle.gts_count.proofs.Cited.{◌≡◌, ℕ, ◌+◌, List, Some, None, is_some, get_or, take, sym, ap, subst, ◌∙◌, NotesKept, Numbers, nat_cmp, option_copied, true≢false, get_or_default}
+use Rattle.gts_count.specs.Cited.{get}
 use Rattle.gts_count.proofs.StartingLemmas.{plain_more, kept_more}
 use Rattle.gts_count.proofs.start.note_kept.Goals as goal
 use Rattle.gts_count.proofs.start.note_kept.Goals.{in-Some, in_default}

@@ -1,4 +1,4 @@
-use Rattle.std.proofs.Common.{take}
+use Rattle.gts_count.proofs.Cited.{take}
 use Rattle.gts_count.specs.Start.{NotesKept}
 use Rattle.gts_count.proofs.start.note_kept.Given as goal
 

@@ -1,5 +1,4 @@
-use Rattle.std.proofs.Common.{ℕ, [], ap, ◌∙◌, arith, replicate}
-use Rattle.gts_count.specs.Cited.{Recent, buffer}
+use Rattle.gts_count.proofs.Cited.{ℕ, [], ap, ◌∙◌, arith, replicate, Recent, buffer}
 use Rattle.gts_count.proofs.StartLemmas.{begins}
 use Rattle.gts_count.proofs.start.nothing.Goals as goal
 

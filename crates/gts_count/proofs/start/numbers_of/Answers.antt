@@ -1,12 +1,9 @@
-use Rattle.std.proofs.Common.{◌≡◌, ℕ, List, length, map, sym, ap, subst, arith, IsSome}
-use Rattle.gts_count.specs.Cited.{All, Buffer, Circuit, CircuitNeed, HasKeys, HaveRows, Need, NotesAll, NotesDraws, bulletin_of, circuit_need_of, get, nat_cmp, need_of, unused}
-use Rattle.std.proofs.lemmas.List.{length-map, get_or-map}
+use Rattle.gts_count.proofs.Cited.{◌≡◌, ℕ, List, length, map, sym, ap, subst, arith, IsSome, All, Buffer, Circuit, CircuitNeed, HasKeys, HaveRows, Need, NotesAll, NotesDraws, bulletin_of, circuit_need_of, nat_cmp, need_of, unused, length-map, get_or-map, sound-parts, common_steps}
+use Rattle.gts_count.specs.Cited.{get}
 use Rattle.gts_event.specs.declared.values.Bulletin as values
 use Rattle.gts_event.specs.declared.values.CircuitNeed as needs
-use Rattle.gts_event.proofs.LawLemmas.{sound-parts}
 use Rattle.gts_count.proofs.BeginningLemmas.{all_of, bodies_of, each_known, each_row, starts}
 use Rattle.gts_count.proofs.start.numbers_of.Goals as goal
-use Rattle.std.proofs.lemmas.Grind.{common_steps}
 
 pub note_bulletins-requires-clause-bulletins : goal.note_bulletins-requires-clause-bulletins
 note_bulletins-requires-clause-bulletins c = grind (arith, common_steps, all_of, sound-parts)

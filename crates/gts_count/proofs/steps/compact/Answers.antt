@@ -1,4 +1,4 @@
-use Rattle.std.proofs.Common.{refl}
+use Rattle.gts_count.proofs.Cited.{refl}
 use Rattle.gts_count.proofs.CallLemmas.{counted_compacting}
 use Rattle.gts_count.proofs.steps.compact.Goals as goal
 

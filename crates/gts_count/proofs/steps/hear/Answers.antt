@@ -1,11 +1,8 @@
-use Rattle.std.proofs.Common.{refl, sym, ◌∙◌}
-use Rattle.std.proofs.lemmas.Result.{err_from_is_err_and}
+use Rattle.gts_count.proofs.Cited.{refl, sym, ◌∙◌, err_from_is_err_and, common_steps, arith}
 use Rattle.gts_event.specs.declared.event.Event.TheVariants.{Heard}
 use Rattle.gts_count.proofs.CountingLemmas.{counts_heard, counts_prepared}
 use Rattle.gts_count.proofs.CallLemmas.{counted_call, left_call, unsettled_call}
 use Rattle.gts_count.proofs.steps.hear.Goals as goal
-use Rattle.std.proofs.lemmas.Grind.{common_steps}
-use Rattle.std.proofs.Common.{arith}
 
 pub returns-in-Ok-clause-called : goal.returns-in-Ok-clause-called
 returns-in-Ok-clause-called g c =

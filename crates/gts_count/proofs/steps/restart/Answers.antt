@@ -1,4 +1,4 @@
-use Rattle.std.proofs.Common.{refl}
+use Rattle.gts_count.proofs.Cited.{refl}
 use Rattle.gts_count.proofs.CallLemmas.{counted_reopening}
 use Rattle.gts_count.proofs.steps.restart.Goals as goal
 

@@ -1,8 +1,6 @@
-use Rattle.std.proofs.Common.{sym, ◌∙◌}
+use Rattle.gts_count.proofs.Cited.{sym, ◌∙◌, common_steps, arith}
 use Rattle.gts_count.proofs.CallLemmas.{counted_settles, noted_settled, noted_failed}
 use Rattle.gts_count.proofs.steps.settle.Goals as goal
-use Rattle.std.proofs.lemmas.Grind.{common_steps}
-use Rattle.std.proofs.Common.{arith}
 
 pub returns-then-is_err-clause-settling : goal.returns-then-is_err-clause-settling
 returns-then-is_err-clause-settling g c = grind (arith, common_steps, counted_settles, noted_failed)

@@ -1,6 +1,4 @@
-use Rattle.std.proofs.Common.{ℕ, ◌+◌, List, sym, ap, ◌∙◌}
-use Rattle.gts_count.specs.Cited.{Directory, State, Taken, all_done, on, spoken}
-use Rattle.gts_event.proofs.LawLemmas.{after_all-append}
+use Rattle.gts_count.proofs.Cited.{ℕ, ◌+◌, List, sym, ap, ◌∙◌, Directory, State, Taken, all_done, on, spoken, after_all-append}
 use Rattle.gts_count.proofs.TakingLemmas.{counts_taken}
 use Rattle.gts_count.proofs.CallLemmas.{counted_call, state_with}
 use Rattle.gts_count.proofs.steps.take.Goals as goal

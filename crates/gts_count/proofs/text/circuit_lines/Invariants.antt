@@ -1,4 +1,4 @@
-use Rattle.std.proofs.Common.{◌≡◌, ◌++◌}
+use Rattle.gts_count.proofs.Cited.{◌≡◌, ◌++◌}
 use Rattle.gts_count.specs.Text.{numbers_lines}
 use Rattle.gts_count.proofs.LineLemmas.{numbers_left}
 use Rattle.gts_count.proofs.text.circuit_lines.Given as goal

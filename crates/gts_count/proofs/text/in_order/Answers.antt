@@ -1,7 +1,6 @@
 use Rattle.gts_count.proofs.SortedLemmas.{none_sorted, one_sorted, all_sorted}
 use Rattle.gts_count.proofs.text.in_order.Goals as goal
-use Rattle.std.proofs.lemmas.Grind.{common_steps}
-use Rattle.std.proofs.Common.{arith}
+use Rattle.gts_count.proofs.Cited.{common_steps, arith}
 
 pub loop-key-init : goal.loop-key-init
 loop-key-init c = grind (arith, common_steps, none_sorted)

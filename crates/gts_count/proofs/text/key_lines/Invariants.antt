@@ -1,4 +1,4 @@
-use Rattle.std.proofs.Common.{◌≡◌, ◌++◌, flat_map}
+use Rattle.gts_count.proofs.Cited.{◌≡◌, ◌++◌, flat_map}
 use Rattle.gts_count.specs.Text.{entry_text, key_lines}
 use Rattle.gts_count.proofs.text.key_lines.Given as goal
 

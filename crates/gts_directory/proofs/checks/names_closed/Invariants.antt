@@ -1,4 +1,4 @@
-use Rattle.std.proofs.Common.{◌≡◌, drop}
+use Rattle.gts_directory.proofs.Cited.{◌≡◌, drop}
 use Rattle.gts_directory.specs.Faults as faults
 use Rattle.gts_directory.proofs.checks.names_closed.Given as goal
 

@@ -1,4 +1,4 @@
-use Rattle.std.proofs.Common.{◌≡◌, ℕ, ◌+◌, ◌/◌, ◌%◌, [], ◌∷◌, refl, ◌∙◌, arith}
+use Rattle.gts_directory.proofs.Cited.{◌≡◌, ℕ, ◌+◌, ◌/◌, ◌%◌, [], ◌∷◌, refl, ◌∙◌, arith}
 use Rattle.gts_alphabet.specs.Digits.{dec}
 use Rattle.gts_directory.proofs.table.cells_of.Goals as goal
 

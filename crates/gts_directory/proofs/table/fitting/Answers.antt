@@ -1,9 +1,7 @@
-use Rattle.std.proofs.Common.{◌≡◌, ℕ, ◌+◌, ◌<◌, List, length, take, drop, arith, length-drop}
+use Rattle.gts_directory.proofs.Cited.{◌≡◌, ℕ, ◌+◌, ◌<◌, List, length, take, drop, arith, length-drop, get_or-drop, take_all, common_steps}
 use Rattle.std.specs.List.{All}
-use Rattle.std.proofs.lemmas.List.{get_or-drop, take_all}
 use Rattle.gts_directory.proofs.TableLemmas.{fitting-two, meet-none}
 use Rattle.gts_directory.proofs.table.fitting.Goals as goal
-use Rattle.std.proofs.lemmas.Grind.{common_steps}
 
 others : (cells : List ℕ) → length cells ≡ 10 → take 8 (drop 2 cells) ≡ drop 2 cells
 others cells ten = take_all 8 (drop 2 cells) (omega (arith, length-drop 2 cells))

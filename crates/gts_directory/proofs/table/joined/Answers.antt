@@ -1,7 +1,6 @@
-use Rattle.std.proofs.Common.{arith}
+use Rattle.gts_directory.proofs.Cited.{arith, common_steps}
 use Rattle.gts_directory.proofs.TableLemmas.{lowest_set, joined-none, joined-step}
 use Rattle.gts_directory.proofs.table.joined.Goals as goal
-use Rattle.std.proofs.lemmas.Grind.{common_steps}
 
 pub bounds-rules-rule : goal.bounds-rules-rule
 bounds-rules-rule c = (lowest_set _ _ c.loop-left-test.true c.loop-left.auto.left-fits.fits c.loop-left.invariant.below).within

@@ -1,4 +1,4 @@
-use Rattle.std.proofs.Common.{◌≡◌, ℕ, ◌<◌, ◌^◌, max, length}
+use Rattle.gts_directory.proofs.Cited.{◌≡◌, ℕ, ◌<◌, ◌^◌, max, length}
 use Rattle.std.specs.Int.{bit_at}
 use Rattle.gts_directory.specs.Table as table
 use Rattle.gts_directory.proofs.table.joined.Given as goal

@@ -1,4 +1,4 @@
-use Rattle.std.proofs.Common.{arith}
+use Rattle.gts_directory.proofs.Cited.{arith}
 use Rattle.gts_directory.proofs.CellLemmas.{IsTable-more}
 use Rattle.gts_directory.proofs.table.make_room.Goals as goal
 

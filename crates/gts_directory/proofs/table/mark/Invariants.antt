@@ -1,4 +1,4 @@
-use Rattle.std.proofs.Common.{◌≡◌, ℕ, ◌<◌, ◌≤◌, slice_index}
+use Rattle.gts_directory.proofs.Cited.{◌≡◌, ℕ, ◌<◌, ◌≤◌, slice_index}
 use Rattle.gts_directory.specs.Table.{allows, marked}
 use Rattle.gts_directory.proofs.table.mark.Given as goal
 

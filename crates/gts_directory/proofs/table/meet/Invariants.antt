@@ -1,4 +1,4 @@
-use Rattle.std.proofs.Common.{◌≡◌, drop}
+use Rattle.gts_directory.proofs.Cited.{◌≡◌, drop}
 use Rattle.gts_directory.specs.Table as table
 use Rattle.gts_directory.proofs.table.meet.Given as goal
 

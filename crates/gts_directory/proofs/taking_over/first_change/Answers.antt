@@ -1,6 +1,6 @@
-use Rattle.std.proofs.Common.{sym, ap, ◌∙◌}
-use Rattle.gts_directory.specs.declared.fault.Part.TheVariants as parts
+use Rattle.gts_directory.proofs.Cited.{sym, ap, ◌∙◌}
 use Rattle.gts_directory.specs.TakingOver.{change_in}
+use Rattle.gts_directory.specs.declared.fault.Part.TheVariants as parts
 use Rattle.gts_directory.proofs.TakingOverLemmas.{circuit_change}
 use Rattle.gts_directory.proofs.taking_over.first_change.Goals as goal
 

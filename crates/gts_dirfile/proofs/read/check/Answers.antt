@@ -1,5 +1,4 @@
-use Rattle.std.proofs.Common.{List, sym, subst}
-use Rattle.gts_dirfile.specs.Cited.{AreRulesOf, RuleRow}
+use Rattle.gts_dirfile.proofs.Cited.{List, sym, subst, AreRulesOf, RuleRow}
 use Rattle.gts_dirfile.proofs.RuleLemmas.{rules_checked}
 use Rattle.gts_dirfile.proofs.read.check.Goals as goal
 

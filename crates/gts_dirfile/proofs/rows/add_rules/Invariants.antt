@@ -1,5 +1,4 @@
-use Rattle.std.proofs.Common.{◌≡◌, take}
-use Rattle.gts_dirfile.specs.Reading.{with_rules}
+use Rattle.gts_dirfile.proofs.Cited.{◌≡◌, take, with_rules}
 use Rattle.gts_dirfile.proofs.rows.add_rules.Given as goal
 
 abbrev pub invariant-loop-rule : goal.invariant-loop-rule

@@ -1,7 +1,4 @@
-use Rattle.std.proofs.Common.{sym, ◌∙◌, arith}
-use Rattle.std.proofs.Math.Nat.{add-mul}
-use Rattle.gts_engine.specs.Cited.{due, seal_size, written}
-use Rattle.gts_recovery.proofs.LawLemmas.{due-waiting}
+use Rattle.gts_engine.proofs.Cited.{sym, ◌∙◌, arith, add-mul, due, seal_size, written, due-waiting}
 use Rattle.gts_engine.proofs.compacting.check_room.Goals as goal
 
 pub waiting-requires : goal.waiting-requires

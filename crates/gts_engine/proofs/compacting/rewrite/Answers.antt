@@ -1,13 +1,9 @@
-use Rattle.std.proofs.Common.{rules, ◌≡◌, ◌-◌, ◌<◌, ℕ, Result, Err, None, length, ap, subst, ◌∙◌, arith, IfErr}
-use Rattle.std.proofs.lemmas.Result.{err_from_is_err_and}
-use Rattle.gts_engine.specs.Cited.{DiskFault, SwitchFault, compacted_bytes, held, need_of, written}
-use Rattle.gts_checkpoint.proofs.LawLemmas.{fit_bytes}
+use Rattle.gts_engine.proofs.Cited.{rules, ◌≡◌, ◌-◌, ◌<◌, ℕ, Result, Err, None, length, ap, subst, ◌∙◌, arith, IfErr, err_from_is_err_and, DiskFault, SwitchFault, compacted_bytes, held, need_of, written, fit_bytes, common_steps}
 use Rattle.gts_engine.proofs.CompactLemmas.{sound, size_free, size_few}
 use Rattle.gts_engine.proofs.StepLemmas.{idle_going}
 use Rattle.gts_engine.proofs.RewritingLemmas.{sound_put, moments_put, failed_put, whole_put, moments_all, compaction_by, sound_by, written_by}
 use Rattle.gts_engine.proofs.AnsweringLemmas.{cause_alike, cause_then, no_device_done}
 use Rattle.gts_engine.proofs.compacting.rewrite.Goals as goal
-use Rattle.std.proofs.lemmas.Grind.{common_steps}
 
 fault_of : (result : Result (Unit {0}) SwitchFault) (e : SwitchFault) → result ≡ Err e → IfErr result (λ x. x ≡ DiskFault) → e ≡ DiskFault
 fault_of result e is h = let F : Result (Unit {0}) SwitchFault → Type 0 = λ r. IfErr r (λ x. x ≡ DiskFault) in subst F is h

@@ -1,13 +1,9 @@
-use Rattle.std.proofs.Common.{◌<◌, length, refl, subst, sym}
-use Rattle.std.proofs.lemmas.Result.{err_from_is_err_and}
-use Rattle.gts_engine.specs.Cited.{Directory, LineLost, Lost, no_heading, receipt_text}
+use Rattle.gts_engine.proofs.Cited.{◌<◌, length, refl, subst, sym, err_from_is_err_and, Directory, LineLost, Lost, no_heading, receipt_text, common_steps, arith}
 use Rattle.gts_engine.proofs.AnswerLemmas.{receipt_told}
 use Rattle.gts_engine.proofs.StepLemmas.{enters_core, lost_step}
 use Rattle.gts_engine.proofs.CallLemmas.{failed_active, unsaid_active}
 use Rattle.gts_engine.proofs.AnsweringLemmas.{may_directory, may_sound, may_kind, goes_cleared, answers_uncleared, answers_told, answers_choked}
 use Rattle.gts_engine.proofs.losing.lose.Goals as goal
-use Rattle.std.proofs.lemmas.Grind.{common_steps}
-use Rattle.std.proofs.Common.{arith}
 
 pub returns-in_err-make_room-clause-answered : goal.returns-in_err-make_room-clause-answered
 returns-in_err-make_room-clause-answered g c = grind (arith, common_steps, err_from_is_err_and, answers_uncleared)

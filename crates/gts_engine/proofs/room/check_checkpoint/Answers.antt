@@ -1,9 +1,7 @@
-use Rattle.std.proofs.Common.{◌≡◌, ◌*◌, ℕ, refl, sym, ap, ◌∙◌, arith}
-use Rattle.gts_engine.specs.Cited.{draw_size, due, seal_size, written}
+use Rattle.gts_engine.proofs.Cited.{◌≡◌, ◌*◌, ℕ, refl, sym, ap, ◌∙◌, arith, draw_size, due, seal_size, written, common_steps}
 use Rattle.gts_engine.proofs.HearingLemmas.{times_few}
 use Rattle.gts_engine.proofs.CompactLemmas.{no_room_compacted, has_room_compacted}
 use Rattle.gts_engine.proofs.room.check_checkpoint.Goals as goal
-use Rattle.std.proofs.lemmas.Grind.{common_steps}
 
 pub overflow_mul-beside : goal.overflow_mul-beside
 overflow_mul-beside c = omega (arith, times_few c.draw_size.result c.args.draws c.draw_size.ensures.bound, c.requires)

@@ -1,4 +1,4 @@
-use Rattle.std.proofs.Common.{◌≡◌, ℕ, nat_le, inl, sym, ap, ◌∙◌, arith}
+use Rattle.gts_engine.proofs.Cited.{◌≡◌, ℕ, nat_le, inl, sym, ap, ◌∙◌, arith}
 use Rattle.gts_record.specs.Format.{seal_size, written}
 use Rattle.gts_engine.proofs.RoomingLemmas.{spare_tells}
 use Rattle.gts_engine.proofs.room.has_spare.Goals as goal

@@ -1,9 +1,6 @@
-use Rattle.std.proofs.Common.{Ok, Err, ap, ◌∙◌, arith}
-use Rattle.std.proofs.lemmas.Result.{err_from_is_err_and}
-use Rattle.gts_engine.specs.Cited.{SayFault}
+use Rattle.gts_engine.proofs.Cited.{Ok, Err, ap, ◌∙◌, arith, err_from_is_err_and, SayFault, common_steps}
 use Rattle.gts_engine.proofs.SayingLemmas.{brings_nothing, brings_all, only_brought, said_behind, fails_behind, journal_in}
 use Rattle.gts_engine.proofs.steps.bring_and_say.Goals as goal
-use Rattle.std.proofs.lemmas.Grind.{common_steps}
 
 pub returns-in_err-bring-clause-brings : goal.returns-in_err-bring-clause-brings
 returns-in_err-bring-clause-brings g c = grind (arith, common_steps, err_from_is_err_and, brings_nothing)

@@ -1,7 +1,6 @@
-use Rattle.std.proofs.Common.{arith}
+use Rattle.gts_engine.proofs.Cited.{arith, common_steps}
 use Rattle.gts_engine.proofs.TakingLemmas.{most_is}
 use Rattle.gts_engine.proofs.steps.has_room_for_draw.Goals as goal
-use Rattle.std.proofs.lemmas.Grind.{common_steps}
 
 pub returns-then-parts-c-clause-few : goal.returns-then-parts-c-clause-few
 returns-then-parts-c-clause-few g c = grind (arith, common_steps, most_is)

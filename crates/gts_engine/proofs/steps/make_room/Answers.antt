@@ -1,8 +1,6 @@
-use Rattle.std.proofs.Common.{inl, inr, refl}
+use Rattle.gts_engine.proofs.Cited.{inl, inr, refl, common_steps, arith}
 use Rattle.gts_engine.proofs.SettlingLemmas.{whenever, room_settled, held_settled}
 use Rattle.gts_engine.proofs.steps.make_room.Goals as goal
-use Rattle.std.proofs.lemmas.Grind.{common_steps}
-use Rattle.std.proofs.Common.{arith}
 
 pub returns-then-room-bytes-clause-settles : goal.returns-then-room-bytes-clause-settles
 returns-then-room-bytes-clause-settles g c = inr c.settle.ensures.settles

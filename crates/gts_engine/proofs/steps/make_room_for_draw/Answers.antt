@@ -1,10 +1,9 @@
-use Rattle.std.proofs.Common.{◌<◌, ◌≤◌, inr, sym, ap, subst, arith, slice_index_or}
-use Rattle.gts_engine.specs.Cited.{Directory, EngineParts, MOST_REPEAT, circuit_of_row, most_drawn}
+use Rattle.gts_engine.proofs.Cited.{◌<◌, ◌≤◌, inr, sym, ap, subst, arith, Directory, EngineParts, MOST_REPEAT, circuit_of_row, most_drawn, common_steps}
+use Rattle.std.proofs.Common.{slice_index_or}
 use Rattle.gts_engine.proofs.TakingLemmas.{most_is}
 use Rattle.gts_engine.proofs.SettlingLemmas.{whenever, draw_gathers, room_settled, held_settled, drawn_settled}
 use Rattle.gts_engine.proofs.AnsweringLemmas.{may_directory, draws_still}
 use Rattle.gts_engine.proofs.steps.make_room_for_draw.Goals as goal
-use Rattle.std.proofs.lemmas.Grind.{common_steps}
 
 pub returns-then-parts-c-clause-settles : goal.returns-then-parts-c-clause-settles
 returns-then-parts-c-clause-settles g c = inr c.settle.ensures.settles

@@ -1,9 +1,7 @@
-use Rattle.std.proofs.Common.{◌≡◌, ◌+◌, take, refl, ap, subst, arith}
-use Rattle.gts_engine.specs.Cited.{Sayings, sizes_of}
+use Rattle.gts_engine.proofs.Cited.{◌≡◌, ◌+◌, take, refl, ap, subst, arith, Sayings, sizes_of, common_steps}
 use Rattle.gts_engine.proofs.PieceLemmas.{each_empty}
 use Rattle.gts_engine.proofs.SayingLemmas.{sayings_in, none_so_far, one_further, said_all, holds_all, holds_failed, fails_there}
 use Rattle.gts_engine.proofs.steps.say_held.Goals as goal
-use Rattle.std.proofs.lemmas.Grind.{common_steps}
 
 pub loop-i-init : goal.loop-i-init
 loop-i-init g c = record { at = refl; up = none_so_far g.P.Station c.args.parts.now }

@@ -1,4 +1,4 @@
-use Rattle.std.proofs.Common.{◌≡◌, take}
+use Rattle.gts_engine.proofs.Cited.{◌≡◌, take}
 use Rattle.gts_engine.specs.Sayings.{sizes_of}
 use Rattle.gts_engine.proofs.SayingLemmas.{SaysUpTo}
 use Rattle.gts_engine.proofs.steps.say_held.Given as goal

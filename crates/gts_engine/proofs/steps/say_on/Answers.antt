@@ -1,4 +1,4 @@
-use Rattle.std.proofs.Common.{refl}
+use Rattle.gts_engine.proofs.Cited.{refl}
 use Rattle.gts_engine.proofs.steps.say_on.Goals as goal
 
 pub returns-in-Ok-clause-cause : goal.returns-in-Ok-clause-cause

@@ -1,8 +1,6 @@
-use Rattle.std.proofs.Common.{◌≡◌, ℕ, List, [], ◌∷◌, inl, refl, arith}
-use Rattle.std.proofs.lemmas.List.{nil_from_length}
+use Rattle.gts_engine.proofs.Cited.{◌≡◌, ℕ, List, [], ◌∷◌, inl, refl, arith, nil_from_length, common_steps}
 use Rattle.gts_traits.specs.Calls.{on}
 use Rattle.gts_engine.proofs.steps.say_one.Goals as goal
-use Rattle.std.proofs.lemmas.Grind.{common_steps}
 
 -- bytes that say nothing are none
 on_none : (channel : ℕ) (bytes : List ℕ) → on channel bytes ≡ [] → bytes ≡ []

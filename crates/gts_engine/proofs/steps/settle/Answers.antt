@@ -1,10 +1,7 @@
-use Rattle.std.proofs.Common.{◌≡◌, ℕ, List, sym, subst, arith, true}
-use Rattle.gts_engine.specs.Cited.{EngineParts, HasSettled, engine_of, no_records, no_sayings}
-use Rattle.std.proofs.lemmas.Bool.{eqb-false}
+use Rattle.gts_engine.proofs.Cited.{◌≡◌, ℕ, List, sym, subst, arith, true, EngineParts, HasSettled, engine_of, no_records, no_sayings, eqb-false, common_steps}
 use Rattle.gts_engine.proofs.SettlingLemmas.{none_told, some_told, block_of, nothing_settled, all_settled, few_none}
 use Rattle.gts_engine.proofs.AnsweringLemmas.{unfailed}
 use Rattle.gts_engine.proofs.steps.settle.Goals as goal
-use Rattle.std.proofs.lemmas.Grind.{common_steps}
 
 pub returns-then-is_empty-clause-settles : goal.returns-then-is_empty-clause-settles
 returns-then-is_empty-clause-settles g c = grind (arith, common_steps, none_told, nothing_settled, unfailed)

@@ -1,6 +1,4 @@
-use Rattle.std.proofs.Common.{◌≡◌, true, false, refl, ap, arith}
-use Rattle.std.proofs.Props.{props}
-use Rattle.gts_engine.specs.Cited.{EngineParts, IsWithin, Sayings, engine_of}
+use Rattle.gts_engine.proofs.Cited.{◌≡◌, true, false, refl, ap, arith, props, EngineParts, IsWithin, Sayings, engine_of}
 use Rattle.gts_engine.proofs.SettlingLemmas.{none_told, some_told}
 use Rattle.gts_engine.proofs.SayingLemmas.{few_held, few_more}
 use Rattle.gts_engine.proofs.StepLemmas.{part_held}

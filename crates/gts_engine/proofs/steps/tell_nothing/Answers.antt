@@ -1,9 +1,7 @@
-use Rattle.std.proofs.Common.{refl}
+use Rattle.gts_engine.proofs.Cited.{refl, common_steps, arith}
 use Rattle.gts_engine.proofs.SettlingLemmas.{none_told, some_told}
 use Rattle.gts_engine.proofs.SayingLemmas.{few_held, few_more}
 use Rattle.gts_engine.proofs.steps.tell_nothing.Goals as goal
-use Rattle.std.proofs.lemmas.Grind.{common_steps}
-use Rattle.std.proofs.Common.{arith}
 
 pub returns-then-not-is_empty-clause-held : goal.returns-then-not-is_empty-clause-held
 returns-then-not-is_empty-clause-held g c = grind (arith, common_steps, some_told)

@@ -1,7 +1,6 @@
 use Rattle.gts_engine.proofs.TakingLemmas.{repeat_unrecorded, nothing_unrecorded}
 use Rattle.gts_engine.proofs.taking.has_room_for_take.Goals as goal
-use Rattle.std.proofs.lemmas.Grind.{common_steps}
-use Rattle.std.proofs.Common.{arith}
+use Rattle.gts_engine.proofs.Cited.{common_steps, arith}
 
 pub returns-in-Draw : goal.returns-in-Draw
 returns-in-Draw g c = grind (arith, common_steps)

@@ -1,7 +1,6 @@
 use Rattle.gts_engine.proofs.TakingLemmas.{due_exact}
 use Rattle.gts_engine.proofs.taking.is_due.Goals as goal
-use Rattle.std.proofs.lemmas.Grind.{common_steps}
-use Rattle.std.proofs.Common.{arith}
+use Rattle.gts_engine.proofs.Cited.{common_steps, arith}
 
 pub returns : goal.returns
 returns g c = grind (arith, common_steps, due_exact)

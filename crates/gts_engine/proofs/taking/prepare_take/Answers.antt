@@ -1,10 +1,7 @@
-use Rattle.std.proofs.Common.{sym, ap, subst, ◌∙◌}
-use Rattle.gts_engine.specs.Cited.{Core, Holds, choice_told}
+use Rattle.gts_engine.proofs.Cited.{sym, ap, subst, ◌∙◌, Core, Holds, choice_told, common_steps, arith}
 use Rattle.gts_engine.proofs.TakingLemmas.{takes_draw, takes_none, repeat_unrecorded, nothing_unrecorded}
 use Rattle.gts_engine.proofs.AnsweringLemmas.{may_core}
 use Rattle.gts_engine.proofs.taking.prepare_take.Goals as goal
-use Rattle.std.proofs.lemmas.Grind.{common_steps}
-use Rattle.std.proofs.Common.{arith}
 
 pub returns-in-Draw-clause-ready : goal.returns-in-Draw-clause-ready
 returns-in-Draw-clause-ready g c = grind (arith, common_steps, takes_draw)

@@ -1,11 +1,9 @@
-use Rattle.std.proofs.Common.{◌≡◌, inl, Bool, true, List, [], ◌∷◌, ◌++◌, if◌then◌else◌, Result, Ok, refl, ap, subst, ◌∙◌, arith}
-use Rattle.gts_engine.specs.Cited.{Caller, Outside, SwitchFault, Taken, engine_of, event_record, gathered_after, held_pieces}
+use Rattle.gts_engine.proofs.Cited.{◌≡◌, inl, Bool, true, List, [], ◌∷◌, ◌++◌, if◌then◌else◌, Result, Ok, refl, ap, subst, ◌∙◌, arith, Caller, Outside, SwitchFault, Taken, engine_of, event_record, gathered_after, held_pieces, common_steps}
 use Rattle.gts_engine.proofs.SettlingLemmas.{some_told}
 use Rattle.gts_engine.proofs.TakingLemmas.{caller_silent, room_less}
 use Rattle.gts_engine.proofs.AnsweringLemmas.{answers_untold}
 use Rattle.gts_engine.proofs.BehindLemmas.{still_gathered}
 use Rattle.gts_engine.proofs.taking.take_behind.Goals as goal
-use Rattle.std.proofs.lemmas.Grind.{common_steps}
 
 pub enter_take-outcome-requires-clause-ready : goal.enter_take-outcome-requires-clause-ready
 enter_take-outcome-requires-clause-ready g c = c.has_room_for_take.ensures c.if-not-has_room_for_take.false

@@ -1,4 +1,4 @@
-use Rattle.std.proofs.Common.{◌≡◌, ◌-◌, ◌^◌, ◌++◌, length, take, flat_map, min}
+use Rattle.gts_event.proofs.Cited.{◌≡◌, ◌-◌, ◌^◌, ◌++◌, length, take, flat_map, min}
 use Rattle.gts_event.proofs.extent.count_places.Given as goal
 
 abbrev pub invariant-loop-circuit : goal.invariant-loop-circuit

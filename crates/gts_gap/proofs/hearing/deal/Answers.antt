@@ -1,6 +1,4 @@
-use Rattle.std.proofs.Common.{sym, subst}
-use Rattle.gts_gap.specs.Cited.{Adds, FrameStep as Step, events_of_signs, signs_of_step}
-use Rattle.gts_gap.specs.Counting.{numbers_of}
+use Rattle.gts_gap.proofs.Cited.{sym, subst, Adds, FrameStep as Step, events_of_signs, signs_of_step, numbers_of}
 use Rattle.gts_gap.proofs.hearing.deal.Goals as goal
 
 pub returns-in-Frame-clause-adds : goal.returns-in-Frame-clause-adds

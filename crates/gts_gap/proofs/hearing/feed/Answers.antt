@@ -1,11 +1,6 @@
-use Rattle.std.proofs.Common.{◌≡◌, ◌++◌, ℕ, List, take, length, Err, ◌∙◌, arith}
-use Rattle.std.proofs.lemmas.List.{length-take-le}
-use Rattle.std.proofs.lemmas.Result.{err_from_is_err_and}
-use Rattle.gts_gap.specs.Cited.{Bad, CaptureFault, Feeds, SourceFault}
-use Rattle.gts_replay.proofs.StepLemmas.{takes_none, takes_more, takes_end}
+use Rattle.gts_gap.proofs.Cited.{◌≡◌, ◌++◌, ℕ, List, take, length, Err, ◌∙◌, arith, length-take-le, err_from_is_err_and, Bad, CaptureFault, Feeds, SourceFault, takes_none, takes_more, takes_end, common_steps}
 use Rattle.gts_gap.proofs.CountingLemmas.{fed_none, fed_piece}
 use Rattle.gts_gap.proofs.hearing.feed.Goals as goal
-use Rattle.std.proofs.lemmas.Grind.{common_steps}
 
 pub loop-count-init : goal.loop-count-init
 loop-count-init g c = grind (arith, common_steps, takes_none, fed_none)

@@ -1,5 +1,4 @@
-use Rattle.std.proofs.Common.{◌≡◌, ℕ, List, length}
-use Rattle.gts_gap.specs.Cited.{IsFed, Takes}
+use Rattle.gts_gap.proofs.Cited.{◌≡◌, ℕ, List, length, IsFed, Takes}
 use Rattle.gts_gap.proofs.hearing.feed.Given as goal
 
 -- the bytes so far were taken and dealt with

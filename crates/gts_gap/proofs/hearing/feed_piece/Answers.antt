@@ -1,7 +1,4 @@
-use Rattle.std.proofs.Common.{◌-◌, ◌++◌, ℕ, List, [], take, drop, refl, sym, ap, subst, ◌∙◌, append_assoc, arith, length, length-drop}
-use Rattle.std.proofs.lemmas.List.{take-append-drop, take_all}
-use Rattle.gts_gap.specs.Cited.{Adds, events_of_signs, signs_of_step}
-use Rattle.gts_gap.specs.Counting.{numbers_of}
+use Rattle.gts_gap.proofs.Cited.{◌-◌, ◌++◌, ℕ, List, [], take, drop, refl, sym, ap, subst, ◌∙◌, append_assoc, arith, length, length-drop, take-append-drop, take_all, Adds, events_of_signs, signs_of_step, numbers_of}
 use Rattle.gts_gap.proofs.CountingLemmas.{fed_none, fed_step}
 use Rattle.gts_gap.proofs.hearing.feed_piece.Goals as goal
 

@@ -1,4 +1,4 @@
-use Rattle.std.proofs.Common.{◌≡◌, ◌++◌, ℕ, List, length}
+use Rattle.gts_gap.proofs.Cited.{◌≡◌, ◌++◌, ℕ, List, length}
 use Rattle.gts_gap.specs.Counting.{IsFed}
 use Rattle.gts_gap.proofs.hearing.feed_piece.Given as goal
 

@@ -1,4 +1,4 @@
-use Rattle.gts_gap.specs.Cited.{digits_of, gaps, missing, runs}
+use Rattle.gts_gap.proofs.Cited.{digits_of, gaps, missing, runs}
 use Rattle.gts_gap.proofs.AskLemmas.{gaps-small, runs-read}
 use Rattle.gts_gap.proofs.laws.what_is_asked_for_is_read.Goals as goal
 

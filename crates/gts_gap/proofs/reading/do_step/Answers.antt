@@ -1,7 +1,6 @@
-use Rattle.std.proofs.Common.{arith}
+use Rattle.gts_gap.proofs.Cited.{arith, common_steps}
 use Rattle.gts_gap.proofs.CountingLemmas.{does_take, does_drain, does_reopen, does_restart, does_compact, feeds_step}
 use Rattle.gts_gap.proofs.reading.do_step.Goals as goal
-use Rattle.std.proofs.lemmas.Grind.{common_steps}
 
 pub returns-in-Feed-clause-does : goal.returns-in-Feed-clause-does
 returns-in-Feed-clause-does g c = grind (arith, common_steps, feeds_step)

@@ -1,10 +1,8 @@
-use Rattle.std.proofs.Common.{◌≡◌, ◌+◌, ◌++◌, ℕ, [], ◌∷◌, length, Result, Err, ap, subst, ◌∙◌, arith, length-append}
-use Rattle.std.proofs.lemmas.Result.{err_from_is_err_and}
-use Rattle.gts_gap.specs.Cited.{Bad, CaptureFault, Comes, DoesStep, End, Head, SourceFault, head_of, line_of}
-use Rattle.gts_replay.proofs.RunLemmas.{ReadsHead}
+use Rattle.gts_gap.proofs.Cited.{◌≡◌, ◌+◌, ◌++◌, ℕ, [], ◌∷◌, length, Result, Err, ap, subst, ◌∙◌, arith, err_from_is_err_and, Bad, CaptureFault, Comes, DoesStep, End, SourceFault, line_of, ReadsHead, common_steps}
+use Rattle.std.proofs.Common.{length-append}
+use Rattle.gts_gap.specs.Cited.{Head, head_of}
 use Rattle.gts_gap.proofs.MissingRunLemmas.{runs_none, runs_more, ends_done, ends_bad, ends_in_step, ends_never}
 use Rattle.gts_gap.proofs.reading.run.Goals as goal
-use Rattle.std.proofs.lemmas.Grind.{common_steps}
 
 pub loop-init : goal.loop-init
 loop-init g c = grind (arith, common_steps, runs_none)

@@ -1,5 +1,4 @@
-use Rattle.std.proofs.Common.{◌≡◌, List, length}
-use Rattle.gts_gap.specs.Cited.{Directory, IsNew, Journaled, Step}
+use Rattle.gts_gap.proofs.Cited.{◌≡◌, List, length, Directory, IsNew, Journaled, Step}
 use Rattle.gts_gap.proofs.MissingRunLemmas.{Runs}
 use Rattle.gts_gap.proofs.reading.run.Given as goal
 

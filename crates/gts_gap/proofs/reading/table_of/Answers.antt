@@ -1,8 +1,5 @@
-use Rattle.std.proofs.Common.{arith}
-use Rattle.std.proofs.lemmas.Result.{err_from_is_err_and}
-use Rattle.gts_replay.proofs.DecoderLemmas.{decode_fresh}
+use Rattle.gts_gap.proofs.Cited.{arith, err_from_is_err_and, decode_fresh, common_steps}
 use Rattle.gts_gap.proofs.reading.table_of.Goals as goal
-use Rattle.std.proofs.lemmas.Grind.{common_steps}
 
 pub returns-clause-comes : goal.returns-clause-comes
 returns-clause-comes g c = grind (arith, common_steps, decode_fresh)

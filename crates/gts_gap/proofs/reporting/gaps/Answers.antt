@@ -1,5 +1,4 @@
-use Rattle.std.proofs.Common.{Result, Err, List, ℕ, refl, sym, ap, subst, ◌∙◌}
-use Rattle.gts_gap.specs.Cited.{IsCutAt, IsTabled, Rings, TableFault}
+use Rattle.gts_gap.proofs.Cited.{Result, Err, List, ℕ, refl, sym, ap, subst, ◌∙◌, IsCutAt, IsTabled, Rings, TableFault}
 use Rattle.gts_gap.proofs.reporting.gaps.Goals as goal
 
 pub returns-in-Err-Capture-clause-names : goal.returns-in-Err-Capture-clause-names

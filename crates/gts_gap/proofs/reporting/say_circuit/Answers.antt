@@ -1,11 +1,6 @@
-use Rattle.std.proofs.Common.{◌≡◌, ◌+◌, List, ℕ, Result, Err, Ok, sym, ap, subst, ◌∙◌}
-use Rattle.std.proofs.lemmas.List.{append-nil}
-use Rattle.gts_gap.specs.Cited.{Failed, Outside, SaysFront, SaysOnly, Tells, ask_frame, ask_heading, asked, circuit_of_row, digits_of, gap_lines, gaps, on, peer_of, run_lines, runs_given, said_of, text_of}
-use Rattle.gts_traits.proofs.SayLemmas.{front_more}
+use Rattle.gts_gap.proofs.Cited.{◌≡◌, ◌+◌, List, ℕ, Result, Err, Ok, sym, ap, subst, ◌∙◌, append-nil, Failed, Outside, SaysFront, SaysOnly, Tells, ask_frame, ask_heading, asked, circuit_of_row, digits_of, gap_lines, gaps, on, peer_of, run_lines, runs_given, said_of, text_of, front_more, common_steps, arith}
 use Rattle.gts_gap.proofs.SayingLemmas.{lines_given, asked_none, asked_some, peer_is, tells_behind, front_told}
 use Rattle.gts_gap.proofs.reporting.say_circuit.Goals as goal
-use Rattle.std.proofs.lemmas.Grind.{common_steps}
-use Rattle.std.proofs.Common.{arith}
 
 pub returns-in_err-say_runs-clause-told : goal.returns-in_err-say_runs-clause-told
 returns-in_err-say_runs-clause-told g c = λ t ns stands.

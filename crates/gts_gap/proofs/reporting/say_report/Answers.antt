@@ -1,6 +1,4 @@
-use Rattle.std.proofs.Common.{◌≡◌, ◌+◌, ◌<◌, ◌++◌, ℕ, length, Result, Err, Ok, sym, ap, subst, ◌∙◌, append_assoc, arith, codes}
-use Rattle.gts_gap.specs.Cited.{Failed, Outside, SaysFront, SaysOnly, Tells, on, report, said_from, said_of}
-use Rattle.gts_traits.proofs.SayLemmas.{front_more}
+use Rattle.gts_gap.proofs.Cited.{◌≡◌, ◌+◌, ◌<◌, ◌++◌, ℕ, length, Result, Err, Ok, sym, ap, subst, ◌∙◌, append_assoc, arith, codes, Failed, Outside, SaysFront, SaysOnly, Tells, on, report, said_from, said_of, front_more}
 use Rattle.gts_gap.proofs.SayingLemmas.{said_more_of, said_split, tells_behind, front_told}
 use Rattle.gts_gap.proofs.reporting.say_report.Goals as goal
 

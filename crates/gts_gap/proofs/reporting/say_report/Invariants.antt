@@ -1,5 +1,4 @@
-use Rattle.std.proofs.Common.{◌≡◌, ◌<◌, ℕ, List, length}
-use Rattle.gts_gap.specs.Cited.{Numbered, SaysOnly, StandsAt, said_from}
+use Rattle.gts_gap.proofs.Cited.{◌≡◌, ◌<◌, ℕ, List, length, Numbered, SaysOnly, StandsAt, said_from}
 use Rattle.gts_gap.proofs.reporting.say_report.Given as goal
 
 -- what is missing on the circuits before this one was said

@@ -1,6 +1,4 @@
-use Rattle.std.proofs.Common.{◌+◌, ◌++◌, List, ℕ, length, Result, Err, Ok, sym, subst, ◌∙◌, arith}
-use Rattle.gts_gap.specs.Cited.{Failed, SaysFront, SaysOnly, Tells, ask_frame, ask_heading, message_end, on}
-use Rattle.gts_gap.specs.Saying.{front_text}
+use Rattle.gts_gap.proofs.Cited.{◌+◌, ◌++◌, List, ℕ, length, Result, Err, Ok, sym, subst, ◌∙◌, arith, Failed, SaysFront, SaysOnly, Tells, ask_frame, ask_heading, message_end, on, front_text}
 use Rattle.gts_gap.proofs.SayingLemmas.{frame_text, tells_on, front_on, front_told}
 use Rattle.gts_gap.proofs.saying.say_request.Goals as goal
 

@@ -1,5 +1,4 @@
-use Rattle.std.proofs.Common.{◌≡◌, ◌∷◌, ◌++◌, List, ℕ, Result, Err, Ok, sym, ap, subst, ◌∙◌, append_assoc}
-use Rattle.gts_gap.specs.Cited.{AllByRecursion, Failed, HasDigits, SaysFront, SaysOnly, Tells, on, run_line, run_lines}
+use Rattle.gts_gap.proofs.Cited.{◌≡◌, ◌∷◌, ◌++◌, List, ℕ, Result, Err, Ok, sym, ap, subst, ◌∙◌, append_assoc, AllByRecursion, Failed, HasDigits, SaysFront, SaysOnly, Tells, on, run_line, run_lines}
 use Rattle.gts_gap.proofs.SayingLemmas.{tells_on, front_on, front_told}
 use Rattle.gts_gap.proofs.saying.say_runs.Goals as goal
 

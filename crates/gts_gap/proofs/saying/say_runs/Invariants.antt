@@ -1,5 +1,4 @@
-use Rattle.std.proofs.Common.{◌≡◌, ◌++◌, List, ℕ}
-use Rattle.gts_gap.specs.Cited.{AllByRecursion, HasDigits, SaysOnly, on, run_lines}
+use Rattle.gts_gap.proofs.Cited.{◌≡◌, ◌++◌, List, ℕ, AllByRecursion, HasDigits, SaysOnly, on, run_lines}
 use Rattle.gts_gap.proofs.saying.say_runs.Given as goal
 
 -- the lines of the runs before those that are left were said

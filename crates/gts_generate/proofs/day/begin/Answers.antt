@@ -1,6 +1,4 @@
-use Rattle.std.proofs.Common.{◌≡◌, Result, Ok, Err, refl, sym, subst, IfOk, IsErrAnd, MatchResult}
-use Rattle.std.proofs.lemmas.Result.{IfOk-at_ok}
-use Rattle.gts_generate.specs.Cited.{BeginsDay, calls_on, seen}
+use Rattle.gts_generate.proofs.Cited.{◌≡◌, Result, Ok, Err, refl, sym, subst, IfOk, IsErrAnd, MatchResult, IfOk-at_ok, BeginsDay, calls_on, seen}
 use Rattle.gts_generate.proofs.RunningLemmas.{begun-day}
 use Rattle.gts_generate.proofs.day.begin.Goals as goal
 

@@ -1,4 +1,4 @@
-use Rattle.std.proofs.Common.{Err, sym, ap}
+use Rattle.gts_generate.proofs.Cited.{Err, sym, ap}
 use Rattle.gts_generate.proofs.day.day_summary.Goals as goal
 
 pub returns-in_err-run-clause-full : goal.returns-in_err-run-clause-full

@@ -1,7 +1,7 @@
-use Rattle.std.proofs.Common.{◌≡◌, ◌≤◌, ℕ, inl, inr, subst, arith}
+use Rattle.gts_generate.proofs.Cited.{◌≡◌, ◌≤◌, ℕ, inl, inr, subst, arith}
+use Rattle.gts_generate.specs.History.{IsFullOn}
 use Rattle.gts_event.specs.declared.fault.SwitchFault.TheVariants as switch
 use Rattle.gts_replay.specs.declared.end.ReplayEnd.TheVariants as end
-use Rattle.gts_generate.specs.History.{IsFullOn}
 use Rattle.gts_generate.proofs.RunningLemmas.{run-done, run-full, run-whole}
 use Rattle.gts_generate.proofs.day.run.Goals as goal
 

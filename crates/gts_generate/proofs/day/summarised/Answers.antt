@@ -1,5 +1,4 @@
-use Rattle.std.proofs.Common.{ℕ, List, ◌++◌, ap, ◌∙◌}
-use Rattle.gts_generate.specs.Cited.{calls_on, said_by, summary_text}
+use Rattle.gts_generate.proofs.Cited.{ℕ, List, ◌++◌, ap, ◌∙◌, calls_on, said_by, summary_text}
 use Rattle.gts_generate.proofs.RunningLemmas.{summed}
 use Rattle.gts_generate.proofs.day.summarised.Goals as goal
 

@@ -1,4 +1,4 @@
-use Rattle.std.proofs.Common.{◌≡◌, ◌++◌, map}
+use Rattle.gts_generate.proofs.Cited.{◌≡◌, ◌++◌, map}
 use Rattle.std.specs.List.{range_with_len}
 use Rattle.gts_generate.specs.Centre as centre
 use Rattle.gts_generate.proofs.directory.add_rules.Given as goal

@@ -1,4 +1,4 @@
-use Rattle.std.proofs.Common.{◌≡◌}
+use Rattle.gts_generate.proofs.Cited.{◌≡◌}
 use Rattle.gts_generate.specs.Centre as centre
 use Rattle.gts_generate.proofs.CentreLemmas.{rows-made, directory-read, no-fault}
 use Rattle.gts_generate.proofs.directory.generated_directory.Goals as goal

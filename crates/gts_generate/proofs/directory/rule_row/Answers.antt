@@ -1,4 +1,4 @@
-use Rattle.std.proofs.Common.{rules}
+use Rattle.gts_generate.proofs.Cited.{rules}
 use Rattle.gts_alphabet.specs.Digits.{dec}
 use Rattle.gts_generate.proofs.CentreLemmas.{circuits_of_rule}
 use Rattle.gts_generate.proofs.directory.rule_row.Goals as goal

@@ -1,4 +1,4 @@
-use Rattle.gts_generate.specs.Cited.{directory, history, start}
+use Rattle.gts_generate.proofs.Cited.{directory, history, start}
 use Rattle.gts_generate.proofs.ReceiptLemmas.{duplicates-counted, granted-counted}
 use Rattle.gts_generate.proofs.DayCountLemmas.{accepted-on, draws-on, resends-on}
 use Rattle.gts_generate.proofs.laws.the_summary_counts_what_happened.Goals as goal

@@ -1,5 +1,4 @@
-use Rattle.std.proofs.Common.{refl, append_assoc}
-use Rattle.gts_generate.specs.Cited.{dec, heading_text}
+use Rattle.gts_generate.proofs.Cited.{refl, append_assoc, dec, heading_text}
 use Rattle.gts_generate.proofs.message.add_heading.Goals as goal
 
 pub returns-clause-text : goal.returns-clause-text

@@ -1,4 +1,4 @@
-use Rattle.std.proofs.Common.{refl, append_assoc}
+use Rattle.gts_generate.proofs.Cited.{refl, append_assoc}
 use Rattle.gts_generate.proofs.message.add_request.Goals as goal
 
 pub returns-clause-text : goal.returns-clause-text

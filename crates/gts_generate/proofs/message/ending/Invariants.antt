@@ -1,5 +1,4 @@
-use Rattle.std.proofs.Common.{◌≡◌, ◌*◌, length, map, flat_map}
-use Rattle.gts_generate.specs.Cited.{Drain, range_with_len, step_text}
+use Rattle.gts_generate.proofs.Cited.{◌≡◌, ◌*◌, length, map, flat_map, Drain, range_with_len, step_text}
 use Rattle.gts_generate.proofs.message.ending.Given as goal
 
 abbrev pub invariant-loop-c : goal.invariant-loop-c

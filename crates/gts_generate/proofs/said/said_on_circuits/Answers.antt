@@ -1,8 +1,6 @@
-use Rattle.std.proofs.Common.{arith}
-use Rattle.std.proofs.lemmas.List.Sums.{sum_by-append}
+use Rattle.gts_generate.proofs.Cited.{arith, sum_by-append, common_steps}
 use Rattle.gts_generate.proofs.SaidLemmas.{on_circuit, on_circuits, sayings-more, sayings-all}
 use Rattle.gts_generate.proofs.said.said_on_circuits.Goals as goal
-use Rattle.std.proofs.lemmas.Grind.{common_steps}
 
 pub returns-in_default-clause-bytes : goal.returns-in_default-clause-bytes
 returns-in_default-clause-bytes c = grind (arith, common_steps, sayings-all)

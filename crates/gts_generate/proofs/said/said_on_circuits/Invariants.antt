@@ -1,5 +1,4 @@
-use Rattle.std.proofs.Common.{◌≡◌, ◌*◌, ◌^◌, ◌≤◌, length, take}
-use Rattle.gts_generate.specs.Cited.{Holds256, sayings}
+use Rattle.gts_generate.proofs.Cited.{◌≡◌, ◌*◌, ◌^◌, ◌≤◌, length, take, Holds256, sayings}
 use Rattle.gts_generate.specs.Summary as summaries
 use Rattle.gts_generate.proofs.SaidLemmas.{on_circuits}
 use Rattle.gts_generate.proofs.said.said_on_circuits.Given as goal

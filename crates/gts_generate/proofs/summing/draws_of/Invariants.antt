@@ -1,4 +1,4 @@
-use Rattle.std.proofs.Common.{◌≡◌, ◌*◌, ◌-◌, ◌^◌, ◌≤◌, map, sum, take}
+use Rattle.gts_generate.proofs.Cited.{◌≡◌, ◌*◌, ◌-◌, ◌^◌, ◌≤◌, map, sum, take}
 use Rattle.gts_generate.proofs.summing.draws_of.Given as goal
 
 abbrev pub invariant-loop-circuit : goal.invariant-loop-circuit

@@ -1,4 +1,4 @@
-use Rattle.std.proofs.Common.{◌≡◌, ◌+◌, ◌≤◌, drop, true}
+use Rattle.gts_generate.proofs.Cited.{◌≡◌, ◌+◌, ◌≤◌, drop, true}
 use Rattle.gts_generate.specs.Summary as summaries
 use Rattle.gts_generate.proofs.summing.lines_of.Given as goal
 

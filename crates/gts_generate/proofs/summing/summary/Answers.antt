@@ -1,7 +1,5 @@
-use Rattle.std.proofs.Common.{◌≡◌, ℕ, ◌-◌, List, ◌++◌, length, map, sum, true, codes, ap, ◌∙◌}
-use Rattle.gts_generate.specs.Cited.{Outside, calls_of, draws_of, encode_lower, frames_in, frames_said, line, lines_from, receipts_of, said_by}
+use Rattle.gts_generate.proofs.Cited.{◌≡◌, ℕ, ◌-◌, List, ◌++◌, length, map, sum, true, codes, ap, ◌∙◌, Outside, calls_of, draws_of, encode_lower, frames_in, frames_said, line, lines_from, receipts_of, said_by, sha256}
 use Rattle.gts_event.specs.declared.values.CircuitNeed.{CircuitNeed}
-use Rattle.sha2.specs.Sha256.{sha256}
 use Rattle.gts_generate.proofs.SummaryLemmas.{all-lines}
 use Rattle.gts_generate.proofs.summing.summary.Goals as goal
 

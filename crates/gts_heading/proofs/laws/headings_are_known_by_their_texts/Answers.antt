@@ -1,4 +1,4 @@
-use Rattle.std.proofs.Common.{ap}
+use Rattle.gts_heading.proofs.Cited.{ap}
 use Rattle.gts_heading.specs.Heading.{heading_text}
 use Rattle.gts_heading.proofs.LawLemmas.{same_heading}
 use Rattle.gts_heading.proofs.laws.headings_are_known_by_their_texts.Goals as goal

@@ -1,11 +1,7 @@
-use Rattle.std.proofs.Common.{◌≡◌, ◌+◌, ◌-◌, ℕ, [], ◌∷◌, ◌++◌, List, length, take, drop, sym, ap, ◌∙◌, subst, arith}
-use Rattle.gts_journal.specs.Cited.{Did, EachSince, Gathered, HasBlock, InHand, OnlyTears, StandsOn, Syncs, Writes, closed_gate, open_gate, seen}
-use Rattle.gts_journal.specs.contracts.Journal.{the_view}
-use Rattle.std.proofs.lemmas.List.{length-take}
+use Rattle.gts_journal.proofs.Cited.{◌≡◌, ◌+◌, ◌-◌, ℕ, [], ◌∷◌, ◌++◌, List, length, take, drop, sym, ap, ◌∙◌, subst, arith, Did, EachSince, Gathered, HasBlock, InHand, OnlyTears, StandsOn, Syncs, Writes, closed_gate, open_gate, seen, the_view, length-take, common_steps}
 use Rattle.gts_journal.proofs.BatchLemmas.{block_bytes, has_block, others_after, others_at_fault, placed, reaches, staged_moments, opened_moments, stands_after}
 use Rattle.gts_journal.proofs.AppendLemmas.{kept_elsewhere}
 use Rattle.gts_journal.proofs.Journal.append_batch.Goals as goal
-use Rattle.std.proofs.lemmas.Grind.{common_steps}
 
 pub returns-in_err-write_synced-clause-moments : goal.returns-in_err-write_synced-clause-moments
 returns-in_err-write_synced-clause-moments g c = grind (arith, common_steps, block_bytes, staged_moments)

@@ -1,4 +1,4 @@
-use Rattle.std.proofs.Common.{sym, subst}
+use Rattle.gts_lock.proofs.Cited.{sym, subst}
 use Rattle.gts_lock.specs.Passes.{NamesAreJoined}
 use Rattle.gts_lock.proofs.counting.close_all.Goals as goal
 

@@ -1,4 +1,4 @@
-use Rattle.std.proofs.Common.{◌≡◌, sym, ◌∙◌, ap, map, subst, length, ◌++◌}
+use Rattle.gts_lock.proofs.Cited.{◌≡◌, sym, ◌∙◌, ap, map, subst, length, ◌++◌}
 use Rattle.gts_lock.proofs.JoiningLemmas.{in_middle, nothing_left, joined_in_order}
 use Rattle.gts_lock.proofs.counting.join_all.Goals as goal
 

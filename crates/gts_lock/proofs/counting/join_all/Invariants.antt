@@ -1,5 +1,5 @@
-use Rattle.std.proofs.Common.{◌≡◌, ℕ, ◌++◌, map}
-use Rattle.gts_lock.specs.Cited.{IsOf, Known}
+use Rattle.gts_lock.proofs.Cited.{◌≡◌, ℕ, ◌++◌, map, IsOf}
+use Rattle.gts_lock.specs.Cited.{Known}
 use Rattle.gts_lock.proofs.counting.join_all.Given as goal
 
 abbrev pub invariant-loop-other : goal.invariant-loop-other

@@ -1,6 +1,4 @@
-use Rattle.std.proofs.Common.{rules, ◌≡◌, [], ◌∷◌, sym, ap, ◌∙◌, subst}
-use lib.ListN.{get_elem?}
-use Rattle.gts_lock.specs.Cited.{IsRun, entries_under}
+use Rattle.gts_lock.proofs.Cited.{rules, ◌≡◌, [], ◌∷◌, sym, ap, ◌∙◌, subst, get_elem?, IsRun, entries_under}
 use Rattle.gts_lock.proofs.JoiningLemmas.{joined_one}
 use Rattle.gts_lock.proofs.tests.add_in_threads.Goals as goal
 

@@ -1,5 +1,4 @@
-use Rattle.std.proofs.Common.{rules, ◌≡◌, [], ◌∷◌, sym, ap, ◌∙◌}
-use lib.ListN.{get_elem?}
+use Rattle.gts_lock.proofs.Cited.{rules, ◌≡◌, [], ◌∷◌, sym, ap, ◌∙◌, get_elem?}
 use Rattle.gts_lock.specs.History.{entries_under}
 use Rattle.gts_lock.proofs.JoiningLemmas.{joined_one}
 use Rattle.gts_lock.proofs.tests.add_in_turns.Goals as goal

@@ -1,5 +1,4 @@
-use Rattle.std.proofs.Common.{rules, ◌≡◌, ℕ, ◌+◌, ◌||◌, nat_lt, Bool, List, ◌∷◌, length, sym, ap, ◌∙◌}
-use Rattle.gts_memory.specs.Cited.{Doing, Writes, doing_of, kept_call, stable, touched}
+use Rattle.gts_memory.proofs.Cited.{rules, ◌≡◌, ℕ, ◌+◌, ◌||◌, nat_lt, Bool, List, ◌∷◌, length, sym, ap, ◌∙◌, Doing, Writes, doing_of, kept_call, stable, touched}
 use Rattle.gts_memory.proofs.LeftLemmas.{end_of_write}
 use Rattle.gts_memory.proofs.crash.go_on.Goals as goal
 

@@ -1,8 +1,5 @@
-use Rattle.std.proofs.Common.{◌≡◌, ◌<◌, ◌==◌, List, [], length, cond, get_or, sym, ap, ◌∙◌, arith}
-use Rattle.std.proofs.lemmas.List.{length-map}
-use Rattle.gts_migrate.specs.Cited.{CircuitNeed, circuit_need_of, circuit_of_row, circuits_under, last_of, need_of, unused}
+use Rattle.gts_migrate.proofs.Cited.{◌≡◌, ◌<◌, ◌==◌, List, [], length, cond, get_or, sym, ap, ◌∙◌, arith, length-map, CircuitNeed, circuit_need_of, circuit_of_row, circuits_under, last_of, need_of, unused, sound-parts}
 use Rattle.gts_event.specs.declared.values.CircuitNeed as values
-use Rattle.gts_event.proofs.LawLemmas.{sound-parts}
 use Rattle.gts_migrate.proofs.LettingGoLemmas.{need_at}
 use Rattle.gts_migrate.proofs.BringingLemmas.{under_at, under_further, if_ok}
 use Rattle.gts_migrate.proofs.bringing.bring_at.Goals as goal

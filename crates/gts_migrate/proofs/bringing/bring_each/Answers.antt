@@ -1,6 +1,4 @@
-use Rattle.std.proofs.Common.{◌<◌, List, map, length, ap, ◌∙◌, arith}
-use Rattle.std.proofs.lemmas.List.{take_all}
-use Rattle.gts_migrate.specs.Cited.{circuit_need_of, circuit_of_row, circuits_under, need_of}
+use Rattle.gts_migrate.proofs.Cited.{◌<◌, List, map, length, ap, ◌∙◌, arith, take_all, circuit_need_of, circuit_of_row, circuits_under, need_of}
 use Rattle.gts_event.specs.declared.values.CircuitNeed as values
 use Rattle.gts_migrate.proofs.BringingLemmas.{length-under, one_more, keep_more}
 use Rattle.gts_migrate.proofs.bringing.bring_each.Goals as goal

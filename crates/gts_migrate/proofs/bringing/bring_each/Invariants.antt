@@ -1,5 +1,4 @@
-use Rattle.std.proofs.Common.{◌≡◌, nat_lt, true, map, take}
-use Rattle.gts_migrate.specs.Cited.{circuit_need_of, circuits_under, list_all, need_of}
+use Rattle.gts_migrate.proofs.Cited.{◌≡◌, nat_lt, true, map, take, circuit_need_of, circuits_under, list_all, need_of}
 use Rattle.gts_migrate.proofs.bringing.bring_each.Given as goal
 
 abbrev pub invariant-loop-c : goal.invariant-loop-c

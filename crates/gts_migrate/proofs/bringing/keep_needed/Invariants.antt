@@ -1,5 +1,4 @@
-use Rattle.std.proofs.Common.{◌≡◌, ◌||◌, nat_le, map, filter}
-use Rattle.gts_migrate.specs.Cited.{bulletin_of, has}
+use Rattle.gts_migrate.proofs.Cited.{◌≡◌, ◌||◌, nat_le, map, filter, bulletin_of, has}
 use Rattle.gts_migrate.proofs.bringing.keep_needed.Given as goal
 
 abbrev pub invariant-loop-bulletin : goal.invariant-loop-bulletin

@@ -1,9 +1,6 @@
-use Rattle.std.proofs.Common.{map, arith}
-use Rattle.gts_migrate.specs.Cited.{bulletin_of}
-use Rattle.std.proofs.lemmas.List.{take_all, length-map}
+use Rattle.gts_migrate.proofs.Cited.{map, arith, bulletin_of, take_all, length-map, common_steps}
 use Rattle.gts_migrate.proofs.DroppingLemmas.{in_order, body_here, bulletin_here, one_more_receipt, receipts_among}
 use Rattle.gts_migrate.proofs.dropping.put_bulletins.Goals as goal
-use Rattle.std.proofs.lemmas.Grind.{common_steps}
 
 pub put_bulletin-requires-clause-order : goal.put_bulletin-requires-clause-order
 put_bulletin-requires-clause-order c = in_order c.args.waiting.now c.requires.up

@@ -1,5 +1,4 @@
-use Rattle.std.proofs.Common.{◌≡◌, ◌++◌, map, take}
-use Rattle.gts_migrate.specs.Cited.{bulletin_of, flat_map, receipt_among}
+use Rattle.gts_migrate.proofs.Cited.{◌≡◌, ◌++◌, map, take, bulletin_of, flat_map, receipt_among}
 use Rattle.gts_migrate.proofs.dropping.put_bulletins.Given as goal
 
 abbrev pub invariant-loop-bulletin : goal.invariant-loop-bulletin

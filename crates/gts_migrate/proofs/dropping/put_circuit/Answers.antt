@@ -1,5 +1,4 @@
-use Rattle.std.proofs.Common.{ℕ, List, map, sym, subst}
-use Rattle.gts_migrate.specs.Cited.{CanDrop, bulletin_of, need_of}
+use Rattle.gts_migrate.proofs.Cited.{ℕ, List, map, sym, subst, CanDrop, bulletin_of, need_of}
 use Rattle.gts_event.specs.declared.values.Bulletin as values
 use Rattle.gts_migrate.proofs.DroppingLemmas.{can_drop, waiting_same}
 use Rattle.gts_migrate.proofs.dropping.put_circuit.Goals as goal

@@ -1,9 +1,6 @@
-use Rattle.std.proofs.Common.{◌∙◌, arith}
-use Rattle.std.proofs.lemmas.List.{append-nil}
-use Rattle.gts_migrate.specs.Cited.{circuit_of_row, need_of}
+use Rattle.gts_migrate.proofs.Cited.{◌∙◌, arith, append-nil, circuit_of_row, need_of, common_steps}
 use Rattle.gts_migrate.proofs.DroppingLemmas.{receipts_next, receipts_end}
 use Rattle.gts_migrate.proofs.dropping.receipts.Goals as goal
-use Rattle.std.proofs.lemmas.Grind.{common_steps}
 
 pub loop-c-preserved : goal.loop-c-preserved
 loop-c-preserved c =

@@ -1,5 +1,4 @@
-use Rattle.std.proofs.Common.{◌≡◌, ◌++◌, drop}
-use Rattle.gts_migrate.specs.Cited.{drop_receipts, need_of, receipts_from}
+use Rattle.gts_migrate.proofs.Cited.{◌≡◌, ◌++◌, drop, drop_receipts, need_of, receipts_from}
 use Rattle.gts_migrate.proofs.dropping.receipts.Given as goal
 
 abbrev pub invariant-loop-c : goal.invariant-loop-c

@@ -1,9 +1,7 @@
-use Rattle.std.proofs.Common.{◌≡◌, Option, Some, ℕ, Err, length, get_or, refl, sym, subst, ◌∙◌, arith}
-use Rattle.gts_migrate.specs.Cited.{TellsWaiting, Waits, circuit_of_row, need_of, unused}
+use Rattle.gts_migrate.proofs.Cited.{◌≡◌, Option, Some, ℕ, Err, length, get_or, refl, sym, subst, ◌∙◌, arith, TellsWaiting, Waits, circuit_of_row, need_of, unused, common_steps}
 use Rattle.gts_migrate.proofs.LettingGoLemmas.{found_here, found_open, found_none, waiting_there}
 use Rattle.gts_migrate.proofs.leaving.check_waiting.Goals as goal
 use Rattle.gts_migrate.proofs.leaving.check_waiting.Goals.{else-circuit-via-then-circuit+else-count-gt0, else-circuit-via-else-circuit}
-use Rattle.std.proofs.lemmas.Grind.{common_steps}
 
 told : (c count : ℕ) (found : Option (ℕ × ℕ)) → found ≡ Some (c, count) → TellsWaiting {T = Unit {0}} (Err (Waits c count)) found
 told c count found is = subst (λ (f : Option (ℕ × ℕ)). TellsWaiting {T = Unit {0}} (Err (Waits c count)) f) (sym is) refl

@@ -1,5 +1,4 @@
-use Rattle.std.proofs.Common.{◌≡◌, drop}
-use Rattle.gts_migrate.specs.Cited.{first_waiting, need_of, waits_on_closed}
+use Rattle.gts_migrate.proofs.Cited.{◌≡◌, drop, first_waiting, need_of, waits_on_closed}
 use Rattle.gts_migrate.proofs.leaving.check_waiting.Given as goal
 
 abbrev pub invariant-loop-c : goal.invariant-loop-c

@@ -1,9 +1,7 @@
-use Rattle.std.proofs.Common.{arith}
-use Rattle.gts_migrate.specs.Cited.{circuit_of_row, need_of}
+use Rattle.gts_migrate.proofs.Cited.{arith, circuit_of_row, need_of, common_steps}
 use Rattle.gts_migrate.proofs.LettingGoLemmas.{closed_here, closed_open, waiting_there}
 use Rattle.gts_migrate.proofs.leaving.count_waiting.Goals as goal
 use Rattle.gts_migrate.proofs.leaving.count_waiting.Goals.{then-circuit, else-circuit}
-use Rattle.std.proofs.lemmas.Grind.{common_steps}
 
 pub overflow_add-count : goal.overflow_add-count
 overflow_add-count c = grind (arith, common_steps, waiting_there, closed_here)

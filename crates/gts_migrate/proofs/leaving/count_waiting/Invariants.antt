@@ -1,5 +1,4 @@
-use Rattle.std.proofs.Common.{◌≡◌, ◌+◌, drop}
-use Rattle.gts_migrate.specs.Cited.{left_behind, need_of, waiting_closed}
+use Rattle.gts_migrate.proofs.Cited.{◌≡◌, ◌+◌, drop, left_behind, need_of, waiting_closed}
 use Rattle.gts_migrate.proofs.leaving.count_waiting.Given as goal
 
 abbrev pub invariant-loop-c : goal.invariant-loop-c

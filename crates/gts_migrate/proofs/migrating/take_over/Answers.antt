@@ -1,12 +1,7 @@
-use Rattle.std.proofs.Common.{◌≡◌, ◌∷◌, ◌∙◌, ℕ, inl, inr, ap, List, Option, None, Result, Ok, Err, sym, subst, arith}
-use Rattle.std.proofs.lemmas.Result.{err_from_is_err_and}
-use Rattle.std.proofs.lemmas.List.{append-nil}
-use Rattle.gts_migrate.specs.Cited.{AnswersOpening, AnswersWaiting, Call, Did, DiskFault, Dropped, EachSince, Full, IsPreparedFaultOf, IsRoomAnswer, MigrateFault, Need, NoMemory, Open, OpenFault, OpensEither, OpensWith, Outside, Refused, SayFault, SaysFor, State, Syncs, Waiting, Waits, full_compacted, goes_on, need, need_of, on, opens_any, restarted, said_by, sayings, seen, waits_on_closed}
-use Rattle.gts_journal.proofs.LawLemmas.{syncs_silent}
+use Rattle.gts_migrate.proofs.Cited.{◌≡◌, ◌∷◌, ◌∙◌, ℕ, inl, inr, ap, List, Option, None, Result, Ok, Err, sym, subst, arith, err_from_is_err_and, append-nil, AnswersOpening, AnswersWaiting, Call, Did, DiskFault, Dropped, EachSince, Full, IsPreparedFaultOf, IsRoomAnswer, MigrateFault, Need, NoMemory, Open, OpenFault, OpensEither, OpensWith, Outside, Refused, SayFault, SaysFor, State, Syncs, Waiting, Waits, full_compacted, goes_on, need, need_of, on, opens_any, restarted, said_by, sayings, seen, waits_on_closed, syncs_silent, common_steps}
 use Rattle.gts_migrate.proofs.DroppingLemmas.{sayings_again, nothing_refused, no_bytes}
 use Rattle.gts_migrate.proofs.MigratingLemmas.{few_due, fits_for, can_migrate, state_is, need_is, opens_so, at_rest, room_after, waiting_after, opening_after, told_after, migrated_after, said_after, silent_by, counts_after}
 use Rattle.gts_migrate.proofs.migrating.take_over.Goals as goal
-use Rattle.std.proofs.lemmas.Grind.{common_steps}
 
 -- where it was prepared, nothing waits, or it is dropped
 waiting_done : {T : Type 0} (w : Waiting) (found : Option (ℕ × ℕ)) (done : T) → AnswersWaiting {T = T} w (Ok done) found → AnswersWaiting {T = Unit {0}} w (Ok tt) found
@@ -28,8 +23,8 @@ waiting_failed T Dropped found DiskFault is = is
 waiting_failed T Dropped found SayFault is = is
 waiting_failed T Dropped found NoMemory is = is
 
-pub prepare-requires-clause-due : goal.prepare-requires-clause-due
-prepare-requires-clause-due g c =
+pub prepare-prepared-requires-clause-due : goal.prepare-prepared-requires-clause-due
+prepare-prepared-requires-clause-due g c =
     few_due g.P.Station.observed c.args.old.now c.args.new.now c.requires (g.P.Station.calls c.open_core_any.new.station) c.in_ok-core.core c.in_ok-core.journal c.in_ok-core.ensures.opened
     (omega (arith, c.bounds_hold.ensures.greatest))
 

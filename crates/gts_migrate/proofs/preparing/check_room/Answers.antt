@@ -1,10 +1,6 @@
-use Rattle.std.proofs.Common.{◌≡◌, ◌-◌, ℕ, arith}
-use Rattle.std.proofs.lemmas.Result.{err_from_is_err_and}
-use Rattle.gts_migrate.specs.Cited.{Directory, IsOrdered, State, TakesOver, all_waiting, due, goes_on, left_behind, need}
-use Rattle.gts_recovery.proofs.LawLemmas.{due_counted as due_waiting}
+use Rattle.gts_migrate.proofs.Cited.{◌≡◌, ◌-◌, ℕ, arith, err_from_is_err_and, Directory, IsOrdered, State, TakesOver, all_waiting, due, goes_on, left_behind, need, due_counted as due_waiting, common_steps}
 use Rattle.gts_migrate.proofs.LettingGoLemmas.{due-on}
 use Rattle.gts_migrate.proofs.preparing.check_room.Goals as goal
-use Rattle.std.proofs.lemmas.Grind.{common_steps}
 
 pub waiting-requires : goal.waiting-requires
 waiting-requires c = grind (arith, common_steps, due_waiting)

@@ -1,10 +1,7 @@
-use Rattle.std.proofs.Common.{◌≡◌, ℕ, true, ap, ◌∙◌, arith}
-use Rattle.std.proofs.lemmas.Result.{err_from_is_err_and}
-use Rattle.gts_migrate.specs.Cited.{Core, Directory as DirectoryOf, HasFewDue, Holds, IsPreparedFaultOf, IsRoomAnswer, IsSaidFaultOf, MigrateFault, Need, Needs, NoMemory, State, Waits, is_sound, left_behind, need, need_of}
+use Rattle.gts_migrate.proofs.Cited.{◌≡◌, ℕ, true, ap, ◌∙◌, arith, err_from_is_err_and, Core, Directory as DirectoryOf, HasFewDue, Holds, IsPreparedFaultOf, IsRoomAnswer, IsSaidFaultOf, MigrateFault, Need, Needs, NoMemory, State, Waits, is_sound, left_behind, need, need_of, common_steps}
 use Rattle.gts_migrate.proofs.LettingGoLemmas.{due-on}
 use Rattle.gts_migrate.proofs.MigratingLemmas.{brought_from}
 use Rattle.gts_migrate.proofs.preparing.prepare.Goals as goal
-use Rattle.std.proofs.lemmas.Grind.{common_steps}
 
 -- the need of the core is sound
 sound_here : (old : DirectoryOf) (core : Core) (n : Need) → Needs core n → HasFewDue old core → is_sound old n ≡ true

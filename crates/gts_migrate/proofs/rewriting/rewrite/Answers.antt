@@ -1,11 +1,6 @@
-use Rattle.std.proofs.Common.{rules, ◌≡◌, ◌-◌, ◌^◌, ◌<◌, ◌≤◌, ℕ, List, Ok, Err, length, sym, ap, subst, ◌∙◌, arith}
-use Rattle.std.proofs.lemmas.Result.{err_from_is_err_and}
-use Rattle.gts_migrate.specs.Cited.{HasWritten, MigrateFault, SaysAll, SaysFor, WorksBeside, compacted_bytes, held, need_of, on, selecting, written}
-use Rattle.gts_engine.proofs.LawLemmas.{fit_bytes}
-use Rattle.gts_recovery.proofs.LawLemmas.{closed_there, still_stands}
+use Rattle.gts_migrate.proofs.Cited.{rules, ◌≡◌, ◌-◌, ◌^◌, ◌<◌, ◌≤◌, ℕ, List, Ok, Err, length, sym, ap, subst, ◌∙◌, arith, err_from_is_err_and, HasWritten, MigrateFault, SaysAll, SaysFor, WorksBeside, compacted_bytes, held, need_of, on, selecting, written, fit_bytes, closed_there, still_stands, common_steps}
 use Rattle.gts_migrate.proofs.MigratingLemmas.{writing, speaking, spoke, stands_spoken, closed_spoken, unsaid_write, said_part, said_whole, all_moments, migrated}
 use Rattle.gts_migrate.proofs.rewriting.rewrite.Goals as goal
-use Rattle.std.proofs.lemmas.Grind.{common_steps}
 
 pub compacted_size-used-requires : goal.compacted_size-used-requires
 compacted_size-used-requires g c = omega (arith, c.requires.size, c.requires.fits.room, c.bounds_hold.ensures.greatest)

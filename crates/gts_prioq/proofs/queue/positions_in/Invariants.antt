@@ -1,4 +1,4 @@
-use Rattle.std.proofs.Common.{◌≡◌, take, flat_map}
+use Rattle.gts_prioq.proofs.Cited.{◌≡◌, take, flat_map}
 use Rattle.gts_prioq.specs.Queue.{items_of}
 use Rattle.gts_prioq.proofs.queue.positions_in.Given as goal
 

@@ -1,4 +1,4 @@
-use Rattle.std.proofs.Common.{◌≡◌, ◌++◌, take}
+use Rattle.gts_prioq.proofs.Cited.{◌≡◌, ◌++◌, take}
 use Rattle.gts_prioq.proofs.queue.push_all.Given as goal
 
 abbrev pub invariant-loop-i : goal.invariant-loop-i

@@ -1,6 +1,4 @@
-use Rattle.std.proofs.Common.{ℕ, ◌+◌, List, take, Ok, Err, subst, arith}
-use Rattle.std.proofs.lemmas.Result.{err_from_is_err_and}
-use Rattle.gts_receiver.specs.Cited.{Answers, Event, FeedEnd, Heard, Hears, SaysNoMore, Seen, events_added, goes_on}
+use Rattle.gts_receiver.proofs.Cited.{ℕ, ◌+◌, List, take, Ok, Err, subst, arith, err_from_is_err_and, Answers, Event, FeedEnd, Heard, Hears, SaysNoMore, Seen, events_added, goes_on}
 use Rattle.gts_calls.specs.Desks.{Feeds}
 use Rattle.gts_receiver.proofs.SettledLemmas.{tries_on}
 use Rattle.gts_receiver.proofs.FedLemmas.{fed_all, fed_lost, fed_fault, wants, heard_at_last, never_heard}

@@ -1,5 +1,4 @@
-use Rattle.std.proofs.Common.{◌≡◌, true, sym, ◌∙◌, subst}
-use Rattle.gts_receiver.specs.Cited.{Answers, Heard, SaysNoMore, Seen, is_wanting}
+use Rattle.gts_receiver.proofs.Cited.{◌≡◌, true, sym, ◌∙◌, subst, Answers, Heard, SaysNoMore, Seen, is_wanting}
 use Rattle.gts_receiver.proofs.SettledLemmas.{again, answers_go, one_more}
 use Rattle.gts_receiver.proofs.receiving.hear_again.Goals as goal
 

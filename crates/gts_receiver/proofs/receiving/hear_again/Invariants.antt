@@ -1,5 +1,4 @@
-use Rattle.std.proofs.Common.{◌≡◌, ◌-◌, ◌≤◌, true, Err}
-use Rattle.gts_receiver.specs.Cited.{Heard, Hears, MOST_TRIES, Seen, is_wanting}
+use Rattle.gts_receiver.proofs.Cited.{◌≡◌, ◌-◌, ◌≤◌, true, Err, Heard, Hears, MOST_TRIES, Seen, is_wanting}
 use Rattle.gts_receiver.proofs.receiving.hear_again.Given as goal
 
 -- whatever became of it before, it was tried again

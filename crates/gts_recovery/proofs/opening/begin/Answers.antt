@@ -1,10 +1,7 @@
-use Rattle.std.proofs.Common.{◌≡◌, ℕ, true, subst, rules}
-use Rattle.gts_recovery.specs.Cited.{CanBegin, HasRead, IsDamage, IsFaultIn, Version, bytes_from, held, is_at_checkpoint, need_of, opened_by}
+use Rattle.gts_recovery.proofs.Cited.{◌≡◌, ℕ, true, subst, rules, CanBegin, HasRead, IsDamage, IsFaultIn, Version, bytes_from, held, is_at_checkpoint, need_of, opened_by, common_steps, arith}
 use Rattle.gts_recovery.proofs.ReadingLemmas.{passed_on}
 use Rattle.gts_recovery.proofs.OpenLemmas.{start_reading, checkpoint_reading, checkpoint_fault}
 use Rattle.gts_recovery.proofs.opening.begin.Goals as goal
-use Rattle.std.proofs.lemmas.Grind.{common_steps}
-use Rattle.std.proofs.Common.{arith}
 
 pub returns-then-not-at_checkpoint-clause-reading : goal.returns-then-not-at_checkpoint-clause-reading
 returns-then-not-at_checkpoint-clause-reading g c = grind (arith, common_steps, start_reading)

@@ -1,10 +1,8 @@
-use Rattle.std.proofs.Common.{◌≡◌, true, List, ℕ, None, subst, ◌∙◌, arith}
-use Rattle.gts_recovery.specs.Cited.{IsAnswer, Version, fault_sought, opens_in, seen, selected_bytes, version_of}
+use Rattle.gts_recovery.proofs.Cited.{◌≡◌, true, List, ℕ, None, subst, ◌∙◌, arith, IsAnswer, Version, fault_sought, opens_in, seen, selected_bytes, version_of, common_steps}
 use Rattle.gts_recovery.proofs.EitherLemmas.{not_older}
 use Rattle.gts_recovery.proofs.ReadingLemmas.{passed_on}
 use Rattle.gts_recovery.proofs.OpenLemmas.{header_answer, started, opened_any, records_answer, same_opened}
 use Rattle.gts_recovery.proofs.opening.open_core_any.Goals as goal
-use Rattle.std.proofs.lemmas.Grind.{common_steps}
 
 pub begin-requires : goal.begin-requires
 begin-requires g c = grind (arith, common_steps)

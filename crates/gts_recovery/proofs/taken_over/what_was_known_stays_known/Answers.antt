@@ -1,4 +1,4 @@
-use Rattle.gts_event.proofs.LawLemmas.{knows}
+use Rattle.gts_recovery.proofs.Cited.{knows}
 use Rattle.gts_recovery.specs.TakenOver.{goes_over}
 use Rattle.gts_recovery.proofs.taken_over.what_was_known_stays_known.Goals as goal
 

@@ -1,4 +1,4 @@
-use Rattle.std.proofs.Common.{◌≡◌, replicate}
+use Rattle.gts_replay.proofs.Cited.{◌≡◌, replicate}
 use Rattle.gts_frame.specs.Decoder.{fresh}
 use Rattle.gts_replay.proofs.decoders.new_decoders.Given as goal
 

@@ -1,4 +1,4 @@
-use Rattle.std.proofs.Common.{◌≡◌, ◌++◌, map, take, drop}
+use Rattle.gts_replay.proofs.Cited.{◌≡◌, ◌++◌, map, take, drop}
 use Rattle.gts_frame.specs.Decoder.{fresh}
 use Rattle.gts_replay.proofs.decoders.reopen_all.Given as goal
 

@@ -1,9 +1,6 @@
-use Rattle.std.proofs.Common.{sym, ◌∙◌, arith}
-use Rattle.std.proofs.lemmas.Bool.{false≢true}
-use Rattle.std.proofs.lemmas.Result.{err_from_is_err_and}
+use Rattle.gts_replay.proofs.Cited.{sym, ◌∙◌, arith, false≢true, err_from_is_err_and, common_steps}
 use Rattle.gts_replay.proofs.DrainLemmas.{drained_more, drained_all, drained_breaks, drained_few}
 use Rattle.gts_replay.proofs.draining.drain.Goals as goal
-use Rattle.std.proofs.lemmas.Grind.{common_steps}
 
 pub returns-in_err-outcome-clause-goes : goal.returns-in_err-outcome-clause-goes
 returns-in_err-outcome-clause-goes g c = λ o first h start.

@@ -1,5 +1,4 @@
-use Rattle.std.proofs.Common.{◌≡◌, ◌-◌, ◌^◌, ℕ, List}
-use Rattle.gts_replay.specs.Cited.{Entry, StandsFor}
+use Rattle.gts_replay.proofs.Cited.{◌≡◌, ◌-◌, ◌^◌, ℕ, List, Entry, StandsFor}
 use Rattle.gts_replay.proofs.DrainLemmas.{Drained}
 use Rattle.gts_replay.proofs.draining.drain.Given as goal
 

@@ -1,13 +1,9 @@
-use Rattle.std.proofs.Common.{◌≡◌, ◌++◌, ℕ, List, take, length, Result, Ok, Err, OnOk, sym, ap, subst, ◌∙◌, arith, is_err}
-use Rattle.std.proofs.lemmas.List.{length-take-le}
-use Rattle.std.proofs.lemmas.Result.{IfOk-at_ok, err_from_is_err_and}
-use Rattle.gts_replay.specs.Cited.{Bad, CaptureFault, Feeds, Goes, SourceFault, SwitchFault, all_done, events_added, held_in}
+use Rattle.gts_replay.proofs.Cited.{◌≡◌, ◌++◌, ℕ, List, take, length, Result, Ok, Err, OnOk, sym, ap, subst, ◌∙◌, arith, is_err, length-take-le, IfOk-at_ok, err_from_is_err_and, Bad, CaptureFault, Feeds, Goes, SourceFault, SwitchFault, all_done, events_added, held_in, common_steps}
 use Rattle.gts_replay.specs.declared.fault.StepFault.TheVariants as step
 use Rattle.gts_replay.proofs.GoingLemmas.{mapped_ok, mapped_err}
 use Rattle.gts_replay.proofs.FeedingLemmas.{fed_none, fed_piece, breaks_piece}
 use Rattle.gts_replay.proofs.StepLemmas.{takes_none, takes_more, takes_end, takes_stop, takes_at_most}
 use Rattle.gts_replay.proofs.feeding.feed.Goals as goal
-use Rattle.std.proofs.lemmas.Grind.{common_steps}
 
 pub loop-count-init : goal.loop-count-init
 loop-count-init g c = grind (arith, common_steps, takes_none, fed_none)

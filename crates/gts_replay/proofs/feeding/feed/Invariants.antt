@@ -1,5 +1,4 @@
-use Rattle.std.proofs.Common.{◌≡◌, ℕ, List}
-use Rattle.gts_replay.specs.Cited.{IsFed, Takes}
+use Rattle.gts_replay.proofs.Cited.{◌≡◌, ℕ, List, IsFed, Takes}
 use Rattle.gts_replay.proofs.feeding.feed.Given as goal
 
 -- the bytes so far were taken and dealt with

@@ -1,12 +1,7 @@
-use Rattle.std.proofs.Common.{◌≡◌, ◌++◌, ℕ, List, take, drop, Result, Ok, Err, sym, ap, subst, ◌∙◌}
-use Rattle.std.proofs.lemmas.List.{append_assoc, take-append-drop}
-use Rattle.std.proofs.lemmas.Result.{err_from_is_err_and}
-use Rattle.gts_replay.specs.Cited.{BreaksOff, Goes, SwitchFault, all_done, answer_of, events_added}
-use Rattle.gts_calls.proofs.FedLemmas.{goes_of}
+use Rattle.gts_replay.proofs.Cited.{◌≡◌, ◌++◌, ℕ, List, take, drop, Result, Ok, Err, sym, ap, subst, ◌∙◌, take-append-drop, err_from_is_err_and, BreaksOff, Goes, SwitchFault, all_done, answer_of, events_added, goes_of, common_steps, arith}
+use Rattle.std.proofs.lemmas.List.{append_assoc}
 use Rattle.gts_replay.proofs.FeedingLemmas.{fed_none, fed_piece, breaks_rest, slice_from}
 use Rattle.gts_replay.proofs.feeding.feed_piece.Goals as goal
-use Rattle.std.proofs.lemmas.Grind.{common_steps}
-use Rattle.std.proofs.Common.{arith}
 
 pub loop-rest-init : goal.loop-rest-init
 loop-rest-init g c = grind (arith, common_steps, fed_none)

@@ -1,4 +1,4 @@
-use Rattle.std.proofs.Common.{◌≡◌, ◌++◌, ℕ, List, length}
+use Rattle.gts_replay.proofs.Cited.{◌≡◌, ◌++◌, ℕ, List, length}
 use Rattle.gts_replay.specs.Going.{IsFed}
 use Rattle.gts_replay.proofs.feeding.feed_piece.Given as goal
 

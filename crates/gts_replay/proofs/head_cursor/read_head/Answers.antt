@@ -1,10 +1,6 @@
-use Rattle.std.proofs.Common.{◌≡◌, length, Ok, ap, arith, length-append}
-use Rattle.std.proofs.lemmas.Result.{err_from_is_err_and}
-use Rattle.gts_replay.specs.Cited.{BeginsWithHead, head_at, head_text}
-use Rattle.gts_replay.specs.Heads.{head_of}
+use Rattle.gts_replay.proofs.Cited.{◌≡◌, length, Ok, ap, arith, length-append, err_from_is_err_and, BeginsWithHead, head_at, head_text, head_of, common_steps}
 use Rattle.gts_replay.proofs.HeadLemmas.{head_found, head_stops}
 use Rattle.gts_replay.proofs.head_cursor.read_head.Goals as goal
-use Rattle.std.proofs.lemmas.Grind.{common_steps}
 
 pub returns-in_err-head-clause-stop : goal.returns-in_err-head-clause-stop
 returns-in_err-head-clause-stop c = grind (arith, common_steps, err_from_is_err_and, head_stops)

@@ -1,11 +1,7 @@
-use Rattle.std.proofs.Common.{◌≡◌, ◌<◌, length, Result, ap, subst, ◌∙◌, arith}
-use Rattle.std.proofs.lemmas.List.{length-map, with_items_is}
-use Rattle.gts_replay.specs.Cited.{Goes, IsHeadIn, SwitchFault, all_done, bytes_announced, state_at, takes_of_drain}
-use Rattle.gts_replay.specs.Heads.{head_of}
+use Rattle.gts_replay.proofs.Cited.{◌≡◌, ◌<◌, length, Result, ap, subst, ◌∙◌, arith, length-map, with_items_is, Goes, IsHeadIn, SwitchFault, all_done, bytes_announced, state_at, takes_of_drain, head_of, common_steps}
 use Rattle.gts_replay.specs.declared.head.Head.{Head}
 use Rattle.gts_replay.proofs.StepLemmas.{does_take, fails_take, does_drain, fails_drain, does_reopen, unsettled_restart, does_restart, fails_restart, unsettled_compact, fails_compact, does_feed}
 use Rattle.gts_replay.proofs.replaying.do_step.Goals as goal
-use Rattle.std.proofs.lemmas.Grind.{common_steps}
 
 pub returns-in-Feed-clause-does : goal.returns-in-Feed-clause-does
 returns-in-Feed-clause-does g c =

@@ -1,10 +1,7 @@
-use Rattle.std.proofs.Common.{ap, subst}
-use Rattle.gts_replay.specs.Cited.{CaptureKind, Ends, Held}
+use Rattle.gts_replay.proofs.Cited.{ap, subst, CaptureKind, Ends, Held, common_steps, arith}
 use Rattle.gts_replay.proofs.DecoderLemmas.{decode_fresh}
 use Rattle.gts_replay.proofs.EndLemmas.{ends_unmade}
 use Rattle.gts_replay.proofs.replaying.replay.Goals as goal
-use Rattle.std.proofs.lemmas.Grind.{common_steps}
-use Rattle.std.proofs.Common.{arith}
 
 pub returns-in_default-clause-ends : goal.returns-in_default-clause-ends
 returns-in_default-clause-ends g c = λ o h start. ends_unmade _ _ _ _ _ _ _ _ _ start

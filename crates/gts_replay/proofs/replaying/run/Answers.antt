@@ -1,14 +1,10 @@
-use Rattle.std.proofs.Common.{◌≡◌, ◌+◌, ◌≤◌, ℕ, List, [], ◌∷◌, ◌++◌, length, Result, Err, OnOk, refl, ap, subst, ◌∙◌, arith, length-append}
-use Rattle.gts_replay.specs.Cited.{AreStill, Bad, CaptureFault, DoesStep, End, Ends, ReplayEnd, SettlesBehind, SourceFault, StepFault, end_of, line_of}
-use Rattle.gts_replay.specs.Heads.{head_of}
+use Rattle.gts_replay.proofs.Cited.{◌≡◌, ◌+◌, ◌≤◌, ℕ, List, [], ◌∷◌, ◌++◌, length, Result, Err, OnOk, refl, ap, subst, ◌∙◌, arith, length-append, AreStill, Bad, CaptureFault, DoesStep, End, Ends, ReplayEnd, SettlesBehind, SourceFault, StepFault, end_of, line_of, head_of, each_connection, common_steps}
 use Rattle.gts_replay.specs.declared.head.Head.{Head}
 use Rattle.gts_replay.specs.declared.fault.StepFault.TheVariants as step
-use Rattle.gts_connection.proofs.LawLemmas.{each_connection}
 use Rattle.gts_replay.proofs.DecoderLemmas.{decode_each}
 use Rattle.gts_replay.proofs.RunLemmas.{ReadsHead, runs_none, runs_more}
 use Rattle.gts_replay.proofs.EndLemmas.{ends_done, ends_bad, ends_source, ends_never, ends_step}
 use Rattle.gts_replay.proofs.replaying.run.Goals as goal
-use Rattle.std.proofs.lemmas.Grind.{common_steps}
 
 pub loop-init : goal.loop-init
 loop-init g c = record {

@@ -1,4 +1,4 @@
-use Rattle.std.proofs.Common.{◌≡◌, List, length}
+use Rattle.gts_replay.proofs.Cited.{◌≡◌, List, length}
 use Rattle.gts_connection.specs.Capture.{Step}
 use Rattle.gts_replay.proofs.RunLemmas.{Runs}
 use Rattle.gts_replay.proofs.replaying.run.Given as goal

@@ -1,6 +1,4 @@
-use Rattle.std.proofs.Common.{ℕ, List, ◌++◌, sym, ap, ◌∙◌}
-use Rattle.gts_report.specs.Cited.{behind, need_of}
-use Rattle.gts_report.specs.Changes.{circuit_lines}
+use Rattle.gts_report.proofs.Cited.{ℕ, List, ◌++◌, sym, ap, ◌∙◌, behind, need_of, circuit_lines}
 use Rattle.gts_report.proofs.CircuitLemmas.{circuits_more}
 use Rattle.gts_report.proofs.circuits.all_circuit_lines.Goals as goal
 

@@ -1,6 +1,4 @@
-use Rattle.std.proofs.Common.{◌≡◌, flat_map}
-use Rattle.gts_report.specs.Cited.{behind, need_of, range_with_len}
-use Rattle.gts_report.specs.Changes.{circuit_lines}
+use Rattle.gts_report.proofs.Cited.{◌≡◌, flat_map, behind, need_of, range_with_len, circuit_lines}
 use Rattle.gts_report.proofs.circuits.all_circuit_lines.Given as goal
 
 abbrev pub invariant-loop-c : goal.invariant-loop-c

@@ -1,11 +1,5 @@
-use Rattle.std.proofs.Common.{◌≡◌, ℕ, ◌<◌, ◌==◌, Bool, true, false, cond, nat_lt, List, [], length, get_or, codes, Result, Ok, Err, sym, ap, ◌∙◌, arith, IfOk}
-use Rattle.std.proofs.lemmas.Bool.{lt-ltb, le-ltb}
-use Rattle.std.proofs.lemmas.List.{get_or-map, length-map}
-use Rattle.std.proofs.lemmas.Option.{get_or_from_slice_get}
-use Rattle.gts_report.specs.Cited.{Circuit, CircuitNeed, behind, circuit_need_of, circuit_of, circuit_of_row, last_of, need_of, need_of_circuit, row_of, stays_lines, unused, word_line}
-use Rattle.gts_report.specs.Changes.{circuit_lines}
+use Rattle.gts_report.proofs.Cited.{◌≡◌, ℕ, ◌<◌, ◌==◌, Bool, true, false, cond, nat_lt, List, [], length, get_or, codes, Result, Ok, Err, sym, ap, ◌∙◌, arith, IfOk, lt-ltb, le-ltb, get_or-map, length-map, get_or_from_slice_get, Circuit, CircuitNeed, behind, circuit_need_of, circuit_of, circuit_of_row, last_of, need_of, need_of_circuit, row_of, stays_lines, unused, word_line, circuit_lines, sound-parts}
 use Rattle.gts_event.specs.declared.values.CircuitNeed as values
-use Rattle.gts_event.proofs.LawLemmas.{sound-parts}
 use Rattle.gts_report.proofs.circuits.circuit_lines.Goals as goal
 
 if_ok : {A E : Type 0} (P Q : A → Type 0) (r : Result A E) → ((x : A) → P x → Q x) → IfOk r P → IfOk r Q

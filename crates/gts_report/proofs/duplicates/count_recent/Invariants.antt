@@ -1,5 +1,4 @@
-use Rattle.std.proofs.Common.{◌≡◌, ◌≤◌, length, map, take}
-use Rattle.gts_report.specs.Cited.{bulletin_of, recent_among}
+use Rattle.gts_report.proofs.Cited.{◌≡◌, ◌≤◌, length, map, take, bulletin_of, recent_among}
 use Rattle.gts_report.proofs.duplicates.count_recent.Given as goal
 
 abbrev pub invariant-loop-bulletin : goal.invariant-loop-bulletin

@@ -1,5 +1,4 @@
-use Rattle.std.proofs.Common.{◌≡◌, ℕ, ◌-◌, List, length, map, sym, ap, ◌∙◌}
-use Rattle.gts_report.specs.Cited.{Bulletin, behind, bulletin_of, known, need_of, recent_among}
+use Rattle.gts_report.proofs.Cited.{◌≡◌, ℕ, ◌-◌, List, length, map, sym, ap, ◌∙◌, Bulletin, behind, bulletin_of, known, need_of, recent_among}
 use Rattle.gts_event.specs.declared.values.Bulletin as values
 use Rattle.gts_report.proofs.DuplicateLemmas.{known_behind}
 use Rattle.gts_report.proofs.duplicates.forgotten_duplicates.Goals as goal

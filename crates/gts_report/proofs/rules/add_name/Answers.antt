@@ -1,6 +1,4 @@
-use Rattle.std.proofs.Common.{◌≡◌, ℕ, Bool, true, cond, ◌==◌, List, [], ◌∷◌, ◌++◌, Result, Ok, Err, append_assoc, sym, ap, ◌∙◌, OnOk}
-use Rattle.gts_report.specs.Cited.{Circuit, bit_at, circuit_of, circuit_of_row, name_text, row_of}
-use Rattle.std.proofs.lemmas.Option.{get_or_from_slice_get}
+use Rattle.gts_report.proofs.Cited.{◌≡◌, ℕ, Bool, true, cond, ◌==◌, List, [], ◌∷◌, ◌++◌, Result, Ok, Err, append_assoc, sym, ap, ◌∙◌, OnOk, Circuit, bit_at, circuit_of, circuit_of_row, name_text, row_of, get_or_from_slice_get}
 use Rattle.gts_report.proofs.rules.add_name.Goals as goal
 
 on_ok : {A E : Type 0} {P Q : Type 0} (r : Result A E) → (P → Q) → OnOk r P → OnOk r Q

@@ -1,5 +1,4 @@
-use Rattle.std.proofs.Common.{ℕ, List, ◌++◌, append_assoc, sym, ap, ◌∙◌}
-use Rattle.gts_report.specs.Cited.{circuits_in, name_text, names_text}
+use Rattle.gts_report.proofs.Cited.{ℕ, List, ◌++◌, append_assoc, sym, ap, ◌∙◌, circuits_in, name_text, names_text}
 use Rattle.gts_report.proofs.RuleLemmas.{names_more}
 use Rattle.gts_report.proofs.rules.add_names.Goals as goal
 

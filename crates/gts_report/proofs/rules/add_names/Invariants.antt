@@ -1,5 +1,4 @@
-use Rattle.std.proofs.Common.{◌≡◌, ◌++◌}
-use Rattle.gts_report.specs.Cited.{circuits_in, names_text}
+use Rattle.gts_report.proofs.Cited.{◌≡◌, ◌++◌, circuits_in, names_text}
 use Rattle.gts_report.proofs.rules.add_names.Given as goal
 
 abbrev pub invariant-loop-c : goal.invariant-loop-c

@@ -1,7 +1,4 @@
-use Rattle.std.proofs.Common.{◌≡◌, ◌+◌, ℕ, List, [], ◌∷◌, ◌++◌, length, map, take, flat_map, sym, ap, ◌∙◌}
-use Rattle.std.proofs.lemmas.List.{take_more, map-append, append-nil}
-use Rattle.std.proofs.lemmas.Grind.{flat_map-append}
-use Rattle.gts_report.specs.Cited.{Rule, RuleRow, rule_change, rule_of_row}
+use Rattle.gts_report.proofs.Cited.{◌≡◌, ◌+◌, ℕ, List, [], ◌∷◌, ◌++◌, length, map, take, flat_map, sym, ap, ◌∙◌, take_more, map-append, append-nil, flat_map-append, Rule, RuleRow, rule_change, rule_of_row}
 use Rattle.gts_report.proofs.rules.lines_of.Goals as goal
 
 pub loop-rule-preserved : goal.loop-rule-preserved

@@ -1,5 +1,4 @@
-use Rattle.std.proofs.Common.{◌≡◌, length, map, take, flat_map}
-use Rattle.gts_report.specs.Cited.{rule_change, rule_of_row}
+use Rattle.gts_report.proofs.Cited.{◌≡◌, length, map, take, flat_map, rule_change, rule_of_row}
 use Rattle.gts_report.proofs.rules.lines_of.Given as goal
 
 abbrev pub invariant-loop-rule : goal.invariant-loop-rule

@@ -1,5 +1,4 @@
-use Rattle.std.proofs.Common.{◌≡◌, ℕ, Bool, true, false, cond, List, [], length, Result, Ok, Err, sym, ap, ◌∙◌, IfOk}
-use Rattle.gts_report.specs.Cited.{AreRulesOf, Directory as DirectoryOf, rule_of_row}
+use Rattle.gts_report.proofs.Cited.{◌≡◌, ℕ, Bool, true, false, cond, List, [], length, Result, Ok, Err, sym, ap, ◌∙◌, IfOk, AreRulesOf, Directory as DirectoryOf, rule_of_row}
 use Rattle.gts_report.specs.Changes as changes
 use Rattle.gts_report.proofs.RuleLemmas.{among_is}
 use Rattle.gts_report.proofs.rules.rule_change.Goals as goal

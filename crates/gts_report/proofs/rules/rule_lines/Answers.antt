@@ -1,5 +1,4 @@
-use Rattle.std.proofs.Common.{◌≡◌, List, ℕ, sym, subst, IfOk}
-use Rattle.gts_report.specs.Cited.{AreRulesOf, Directory, rule_lines}
+use Rattle.gts_report.proofs.Cited.{◌≡◌, List, ℕ, sym, subst, IfOk, AreRulesOf, Directory, rule_lines}
 use Rattle.gts_report.proofs.rules.rule_lines.Goals as goal
 
 pub lines_of-requires : goal.lines_of-requires

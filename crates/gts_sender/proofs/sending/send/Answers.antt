@@ -1,6 +1,4 @@
-use Rattle.std.proofs.Common.{rules, ℕ, ◌++◌, [], List, Bool, Ok, refl, sym, ap, ◌∙◌, subst, append_assoc}
-use Rattle.std.proofs.lemmas.List.{append-nil}
-use Rattle.gts_sender.specs.Sender.{Tried}
+use Rattle.gts_sender.proofs.Cited.{rules, ℕ, ◌++◌, [], List, Bool, Ok, refl, sym, ap, ◌∙◌, subst, append_assoc, append-nil, Tried}
 use Rattle.gts_sender.proofs.DrawLemmas.{sending_nothing}
 use Rattle.gts_sender.proofs.sending.send.Goals as goal
 

@@ -1,4 +1,4 @@
-use Rattle.std.proofs.Common.{◌≡◌, ℕ, ◌++◌, List}
+use Rattle.gts_sender.proofs.Cited.{◌≡◌, ℕ, ◌++◌, List}
 use Rattle.gts_sender.specs.Sender.{Sending}
 use Rattle.gts_sender.proofs.sending.send.Given as goal
 

@@ -1,11 +1,7 @@
-use Rattle.std.proofs.Common.{[], sym}
-use Rattle.std.proofs.lemmas.List.{append-nil}
-use Rattle.std.proofs.lemmas.Result.{err_from_is_err_and}
+use Rattle.gts_sender.proofs.Cited.{[], sym, append-nil, err_from_is_err_and, common_steps, arith}
 use Rattle.gts_calls.specs.Given.{frames_of}
 use Rattle.gts_sender.proofs.DrawLemmas.{turn_sent, turn_broke, turn_failed}
 use Rattle.gts_sender.proofs.sending.send_some.Goals as goal
-use Rattle.std.proofs.lemmas.Grind.{common_steps}
-use Rattle.std.proofs.Common.{arith}
 
 pub returns-in_err-more-clause-tried : goal.returns-in_err-more-clause-tried
 returns-in_err-more-clause-tried g c =

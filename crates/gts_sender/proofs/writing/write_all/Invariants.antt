@@ -1,4 +1,4 @@
-use Rattle.std.proofs.Common.{◌≡◌, ℕ, ◌++◌, List, length}
+use Rattle.gts_sender.proofs.Cited.{◌≡◌, ℕ, ◌++◌, List, length}
 use Rattle.gts_sender.proofs.writing.write_all.Given as goal
 
 -- a front was written, and the rest is left

@@ -1,9 +1,6 @@
-use Rattle.std.proofs.Common.{ℕ, ◌<◌, ◌++◌, [], List, length, take, refl, sym, ap, ◌∙◌, arith, append_assoc}
-use Rattle.std.proofs.lemmas.List.{append-nil}
-use Rattle.gts_sender.specs.Cited.{Frame, frames_of, texts}
+use Rattle.gts_sender.proofs.Cited.{ℕ, ◌<◌, ◌++◌, [], List, length, take, refl, sym, ap, ◌∙◌, arith, append_assoc, append-nil, Frame, frames_of, texts, common_steps}
 use Rattle.gts_sender.proofs.WritingLemmas.{there, one_more, all_of, up_to, front_of}
 use Rattle.gts_sender.proofs.writing.write_frames.Goals as goal
-use Rattle.std.proofs.lemmas.Grind.{common_steps}
 
 pub loop-i-init : goal.loop-i-init
 loop-i-init g c = record { at = refl; written = ([], refl, λ observed. sym (append-nil (g.K.Sink.written c.args.sink.now))); sound = refl }

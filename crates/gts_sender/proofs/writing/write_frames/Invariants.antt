@@ -1,5 +1,4 @@
-use Rattle.std.proofs.Common.{◌≡◌, ℕ, ◌++◌, List, take}
-use Rattle.gts_sender.specs.Cited.{frames_of, sizes_of, texts}
+use Rattle.gts_sender.proofs.Cited.{◌≡◌, ℕ, ◌++◌, List, take, frames_of, sizes_of, texts}
 use Rattle.gts_sender.proofs.writing.write_frames.Given as goal
 
 -- the frames before this one were written

@@ -1,5 +1,4 @@
-use Rattle.std.proofs.Common.{◌≡◌, ℕ, [], Err, refl, sym, ap, subst, ◌∙◌, arith}
-use Rattle.gts_standby.specs.Cited.{FollowEnd, Gathering, IsGathered, Rose}
+use Rattle.gts_standby.proofs.Cited.{◌≡◌, ℕ, [], Err, refl, sym, ap, subst, ◌∙◌, arith, FollowEnd, Gathering, IsGathered, Rose}
 use Rattle.gts_standby.proofs.AddLemmas.{holds_of}
 use Rattle.gts_standby.proofs.GatherLemmas.{gathered_of, can_gather, gathered_one, gate_stays, gate_grows, has_room, began}
 use Rattle.gts_standby.proofs.GoneLemmas.{begun_there, room_made, one_more, disk_failed, finished, none_added}

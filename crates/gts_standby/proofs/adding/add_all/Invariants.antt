@@ -1,5 +1,4 @@
-use Rattle.std.proofs.Common.{◌≡◌, ◌+◌, ◌-◌, ◌^◌, ◌≤◌, ℕ, List, length}
-use Rattle.gts_standby.specs.Cited.{HasRead, HoldsAt, IsGathering, IsWhole, State, gate_behind, said_by, written}
+use Rattle.gts_standby.proofs.Cited.{◌≡◌, ◌+◌, ◌-◌, ◌^◌, ◌≤◌, ℕ, List, length, HasRead, HoldsAt, IsGathering, IsWhole, State, gate_behind, said_by, written}
 use Rattle.gts_standby.specs.Taking as feeds
 use Rattle.gts_standby.proofs.GoneLemmas.{HasGone}
 use Rattle.gts_standby.proofs.adding.add_all.Given as goal

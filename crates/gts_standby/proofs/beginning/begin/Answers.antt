@@ -1,10 +1,7 @@
-use Rattle.std.proofs.Common.{◌≡◌, ◌-◌, ◌^◌, ◌<◌, ◌≤◌, ℕ, List, length, take, drop, refl, sym, ap, subst, ◌∙◌, arith}
-use Rattle.std.proofs.lemmas.List.{length-take}
-use Rattle.gts_standby.specs.Cited.{BeforeIt, HasRead, InFeed, IsCheckpoint, IsWhole, NoMemory, Version, WithinIt, begun, held, need_of, seal_size, written}
+use Rattle.gts_standby.proofs.Cited.{◌≡◌, ◌-◌, ◌^◌, ◌<◌, ◌≤◌, ℕ, List, length, take, drop, refl, sym, ap, subst, ◌∙◌, arith, length-take, BeforeIt, HasRead, InFeed, IsCheckpoint, IsWhole, NoMemory, Version, WithinIt, begun, held, need_of, seal_size, written, kept_begun}
 use Rattle.gts_standby.specs.Taking as feeds
 use Rattle.gts_standby.proofs.ExitLemmas.{returned}
 use Rattle.gts_standby.proofs.HeaderLemmas.{passed}
-use Rattle.gts_recovery.proofs.LawLemmas.{kept_begun}
 use Rattle.gts_standby.proofs.PutLemmas.{put_ends, found_there, none_found, piece_of, begun_so, begins_with, none_begins}
 use Rattle.gts_standby.proofs.WholeLemmas.{whole_read, stops_all, put_all}
 use Rattle.gts_standby.proofs.beginning.begin.Goals as goal

@@ -1,10 +1,6 @@
-use Rattle.std.proofs.Common.{rules, ◌≡◌, ◌+◌, ◌-◌, ◌^◌, ◌<◌, ◌≤◌, ℕ, List, length, refl, sym, ap, subst, ◌∙◌, arith}
-use Rattle.gts_standby.specs.Cited.{HasWritten, HoldsState, WorksBeside, begun, compacted_bytes, held, need_of, need_seal, seal_size, written}
-use Rattle.gts_checkpoint.proofs.LawLemmas.{fit_bytes}
-use Rattle.gts_recovery.proofs.LawLemmas.{closed_there, still_stands}
+use Rattle.gts_standby.proofs.Cited.{rules, ◌≡◌, ◌+◌, ◌-◌, ◌^◌, ◌<◌, ◌≤◌, ℕ, List, length, refl, sym, ap, subst, ◌∙◌, arith, HasWritten, HoldsState, WorksBeside, begun, compacted_bytes, held, need_of, need_seal, seal_size, written, fit_bytes, closed_there, still_stands, common_steps}
 use Rattle.gts_standby.proofs.BeginLemmas.{still_stands_for, holds_begun, begun_stands, all_moments}
 use Rattle.gts_standby.proofs.beginning.put.Goals as goal
-use Rattle.std.proofs.lemmas.Grind.{common_steps}
 
 pub write-requires-clause-fits : goal.write-requires-clause-fits
 write-requires-clause-fits g c =

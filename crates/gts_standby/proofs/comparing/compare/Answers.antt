@@ -1,13 +1,10 @@
-use Rattle.std.proofs.Common.{◌≡◌, ◌+◌, ℕ, List, drop, sym, ap, subst, ◌∙◌}
-use Rattle.gts_standby.specs.Cited.{IsAtFirst, StopsAs, Taken, Version, compare_all, compare_first, file_of, first_fault, first_seal, open_end, own_seals, seen, written}
+use Rattle.gts_standby.proofs.Cited.{◌≡◌, ◌+◌, ℕ, List, drop, sym, ap, subst, ◌∙◌, IsAtFirst, StopsAs, Taken, Version, compare_all, compare_first, file_of, first_fault, first_seal, open_end, own_seals, seen, written, common_steps, arith}
 use Rattle.gts_standby.proofs.ExitLemmas.{returned}
 use Rattle.gts_standby.proofs.FirstLemmas.{at_start, no_header_fault}
 use Rattle.gts_standby.proofs.CompareLemmas.{device_start, device_stops, compares_same, same_seals}
 use Rattle.gts_standby.proofs.WholeLemmas.{open_all}
 use Rattle.gts_standby.proofs.OtherLemmas.{open_other, no_other, kept_later}
 use Rattle.gts_standby.proofs.comparing.compare.Goals as goal
-use Rattle.std.proofs.lemmas.Grind.{common_steps}
-use Rattle.std.proofs.Common.{arith}
 
 pub returns-in_err-own-clause-compared : goal.returns-in_err-own-clause-compared
 returns-in_err-own-clause-compared g c = λ observed told s j fed stands gate read.

@@ -1,13 +1,10 @@
-use Rattle.std.proofs.Common.{rules, ◌≡◌, ℕ, true, false, nat_eq, drop, sym, subst}
-use Rattle.gts_standby.specs.Cited.{Ends, HasRead, InFeed, IsWhole, Sealed, first_piece, held, pointwise, seals_here, stopped}
+use Rattle.gts_standby.proofs.Cited.{rules, ◌≡◌, ℕ, true, false, nat_eq, drop, sym, subst, Ends, HasRead, InFeed, IsWhole, Sealed, first_piece, held, pointwise, seals_here, stopped, common_steps, arith}
 use Rattle.gts_standby.proofs.ExitLemmas.{returned}
 use Rattle.gts_standby.proofs.HeaderLemmas.{passed}
 use Rattle.gts_standby.proofs.CompareLemmas.{first_on, first_off, diverged, device_stops, first_stops_at, first_so, same_so, own_so, fed_so}
 use Rattle.gts_standby.proofs.WholeLemmas.{whole_read, stops_all, own_all}
 use Rattle.gts_standby.proofs.OtherLemmas.{fed_other, own_other, no_other}
 use Rattle.gts_standby.proofs.comparing.compare_first.Goals as goal
-use Rattle.std.proofs.lemmas.Grind.{common_steps}
-use Rattle.std.proofs.Common.{arith}
 
 pub returns-in_err-size-clause-compared : goal.returns-in_err-size-clause-compared
 returns-in_err-size-clause-compared g c = λ observed told end fed first low read.

@@ -1,5 +1,4 @@
-use Rattle.std.proofs.Common.{rules, ◌≡◌, true, false, nat_eq, drop, sym, subst}
-use Rattle.gts_standby.specs.Cited.{Ends, HasRead, InFeed, IsWhole, held, open_end, pointwise, stopped}
+use Rattle.gts_standby.proofs.Cited.{rules, ◌≡◌, true, false, nat_eq, drop, sym, subst, Ends, HasRead, InFeed, IsWhole, held, open_end, pointwise, stopped}
 use Rattle.gts_standby.proofs.ExitLemmas.{returned}
 use Rattle.gts_standby.proofs.HeaderLemmas.{passed}
 use Rattle.gts_standby.proofs.CompareLemmas.{behind_one, compare_on, compare_off, device_passed, diverged, device_stops, stops_at, piece_so, same_so, own_so, fed_so}

@@ -1,4 +1,4 @@
-use Rattle.std.proofs.Common.{◌≡◌, ◌+◌, Bool, cond, ap, ◌∙◌, arith}
+use Rattle.gts_standby.proofs.Cited.{◌≡◌, ◌+◌, Bool, cond, ap, ◌∙◌, arith}
 use Rattle.gts_standby.proofs.ExitLemmas.{returned}
 use Rattle.gts_standby.proofs.CompareLemmas.{far_on, far_stops, far_done}
 use Rattle.gts_standby.proofs.comparing.compare_rest.Goals as goal

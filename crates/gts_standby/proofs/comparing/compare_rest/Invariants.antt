@@ -1,5 +1,4 @@
-use Rattle.std.proofs.Common.{◌≡◌, ◌+◌, ◌-◌, ◌*◌, ◌^◌, ◌≤◌, ℕ, false, List}
-use Rattle.gts_standby.specs.Cited.{Directory, HasRead, IsAtSeals, IsWhole, StandsOn, compare_all}
+use Rattle.gts_standby.proofs.Cited.{◌≡◌, ◌+◌, ◌-◌, ◌*◌, ◌^◌, ◌≤◌, ℕ, false, List, Directory, HasRead, IsAtSeals, IsWhole, StandsOn, compare_all}
 use Rattle.gts_standby.proofs.CompareLemmas.{HasGoneFar}
 use Rattle.gts_standby.proofs.comparing.compare_rest.Given as goal
 

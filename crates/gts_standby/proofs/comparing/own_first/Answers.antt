@@ -1,5 +1,4 @@
-use Rattle.std.proofs.Common.{rules, ◌≡◌, ◌+◌, ℕ, true, false, drop, ap, subst, ◌∙◌, arith}
-use Rattle.gts_standby.specs.Cited.{IsDamage, Version, bytes_from, compacted_bytes, file_of, held, is_at_checkpoint, need_of, open_end}
+use Rattle.gts_standby.proofs.Cited.{rules, ◌≡◌, ◌+◌, ℕ, true, false, drop, ap, subst, ◌∙◌, arith, IsDamage, Version, bytes_from, compacted_bytes, file_of, held, is_at_checkpoint, need_of, open_end}
 use Rattle.gts_checkpoint.specs.Reading.{HasRead}
 use Rattle.gts_standby.proofs.ExitLemmas.{returned}
 use Rattle.gts_standby.proofs.FirstLemmas.{no_damage}

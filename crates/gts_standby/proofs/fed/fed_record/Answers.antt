@@ -1,5 +1,4 @@
-use Rattle.std.proofs.Common.{◌≡◌, Some, None, sym, ap, ◌∙◌}
-use Rattle.gts_standby.specs.Cited.{held, record_of, sealed_at}
+use Rattle.gts_standby.proofs.Cited.{◌≡◌, Some, None, sym, ap, ◌∙◌, held, record_of, sealed_at}
 use Rattle.gts_standby.proofs.FedLemmas.{found_piece, no_piece, found_fits_there}
 use Rattle.gts_standby.proofs.fed.fed_record.Goals as goal
 

@@ -1,5 +1,4 @@
-use Rattle.std.proofs.Common.{ap, ◌∙◌, is_some}
-use Rattle.gts_record.specs.Record.{record_at}
+use Rattle.gts_standby.proofs.Cited.{ap, ◌∙◌, is_some, record_at}
 use Rattle.gts_standby.proofs.MayBeginLemmas.{draw_may, some_found}
 use Rattle.gts_standby.proofs.fed.may_begin_draw.Goals as goal
 

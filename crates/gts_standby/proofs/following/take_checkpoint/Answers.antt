@@ -1,6 +1,5 @@
-use Rattle.std.proofs.Common.{length, drop, arith, length-drop}
+use Rattle.gts_standby.proofs.Cited.{length, drop, arith, length-drop, read_at}
 use Rattle.gts_event.specs.Need.{begun}
-use Rattle.gts_standby.specs.Cited.{read_at}
 use Rattle.gts_standby.proofs.TakeLemmas.{begun_on, ends_begun}
 use Rattle.gts_standby.proofs.following.take_checkpoint.Goals as goal
 

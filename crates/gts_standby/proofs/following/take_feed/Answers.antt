@@ -1,10 +1,7 @@
-use Rattle.std.proofs.Common.{refl, drop, sym, subst}
-use Rattle.gts_standby.specs.Cited.{Ends, FollowEnd, HasRead, InFeed, ReadsAll, stopped}
+use Rattle.gts_standby.proofs.Cited.{refl, drop, sym, subst, Ends, FollowEnd, HasRead, InFeed, ReadsAll, stopped, common_steps, arith}
 use Rattle.gts_standby.proofs.AddLemmas.{holds_of}
 use Rattle.gts_standby.proofs.TakeLemmas.{all_unread, behind_taken, header_taken, answers_there, added_there, reads_after_there, kept_there, moments_there, done_stops, open_alone, open_no_end, taken_alone, fed_alone, opened_there}
 use Rattle.gts_standby.proofs.following.take_feed.Goals as goal
-use Rattle.std.proofs.lemmas.Grind.{common_steps}
-use Rattle.std.proofs.Common.{arith}
 
 pub returns-in-Ok-take_header-clause-answer : goal.returns-in-Ok-take_header-clause-answer
 returns-in-Ok-take_header-clause-answer g c = λ observed told.

@@ -1,4 +1,4 @@
-use Rattle.std.proofs.Common.{length, inl, inr, refl, sym, ◌∙◌, arith}
+use Rattle.gts_standby.proofs.Cited.{length, inl, inr, refl, sym, ◌∙◌, arith}
 use Rattle.gts_standby.proofs.TakeLemmas.{unread_taken, plain_taken, checkpoint_taken}
 use Rattle.gts_standby.proofs.WholeLemmas.{whole_read, read_all}
 use Rattle.gts_standby.proofs.following.take_first.Goals as goal

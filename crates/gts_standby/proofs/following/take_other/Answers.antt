@@ -1,4 +1,4 @@
-use Rattle.std.proofs.Common.{inl, inr, refl, sym, ◌∙◌}
+use Rattle.gts_standby.proofs.Cited.{inl, inr, refl, sym, ◌∙◌}
 use Rattle.gts_standby.proofs.TakeLemmas.{unread_taken, anew_taken, behind_taken_over}
 use Rattle.gts_standby.proofs.WholeLemmas.{whole_read, read_all}
 use Rattle.gts_standby.proofs.OtherLemmas.{other_all}

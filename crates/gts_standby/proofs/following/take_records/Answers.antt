@@ -1,8 +1,7 @@
-use Rattle.std.proofs.Common.{rules, ◌≡◌, ℕ, true, false, ◌≤◌, ◌<◌, ◌-◌, length, sym, subst, ◌∙◌, arith}
+use Rattle.gts_standby.proofs.Cited.{rules, ◌≡◌, ℕ, true, false, ◌≤◌, ◌<◌, ◌-◌, length, sym, subst, ◌∙◌, arith, Rose, is_other}
 use Rattle.gts_standby.proofs.AddLemmas.{gate_so}
 use Rattle.gts_standby.proofs.TakeLemmas.{opened_kept, holds_kept, first_there, first_taken, ends_compared, goes_compared, other_compared}
 use Rattle.gts_standby.proofs.WholeLemmas.{whole_read}
-use Rattle.gts_standby.specs.Cited.{Rose, is_other}
 use Rattle.gts_standby.proofs.OtherLemmas.{other_end}
 use Rattle.gts_standby.proofs.following.take_records.Goals as goal
 

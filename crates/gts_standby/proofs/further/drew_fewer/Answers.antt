@@ -1,6 +1,4 @@
-use Rattle.std.proofs.Common.{rules, tests, ◌∙◌, nat_lt}
-use Rattle.std.proofs.lemmas.Iterator.{YieldsList-from_slice, YieldsList-from_zip}
-use Rattle.std.proofs.lemmas.Iterator.Search.{any_from_yields_List}
+use Rattle.gts_standby.proofs.Cited.{rules, tests, ◌∙◌, nat_lt, YieldsList-from_slice, YieldsList-from_zip, any_from_yields_List}
 use Rattle.gts_standby.proofs.FurtherLemmas.{fewer_seen}
 use Rattle.gts_standby.proofs.further.drew_fewer.Goals as goal
 

@@ -1,5 +1,4 @@
-use Rattle.std.proofs.Common.{◌≡◌, ◌-◌, ◌<◌, ◌^◌, ℕ, List, take, sym, ap, subst, ◌∙◌, arith}
-use Rattle.gts_standby.specs.Cited.{InFeed, IsCheckpoint, Version, held, need_of, seal_size, written}
+use Rattle.gts_standby.proofs.Cited.{◌≡◌, ◌-◌, ◌<◌, ◌^◌, ℕ, List, take, sym, ap, subst, ◌∙◌, arith, InFeed, IsCheckpoint, Version, held, need_of, seal_size, written}
 use Rattle.gts_standby.specs.Taking as feeds
 use Rattle.gts_standby.proofs.PutLemmas.{piece_of, found_there, none_found, none_begins, begins_with}
 use Rattle.gts_standby.proofs.FurtherLemmas.{none_further, some_further}

@@ -1,5 +1,4 @@
-use Rattle.std.proofs.Common.{arith, sym}
-use Rattle.gts_journal.proofs.LawLemmas.{agreeing-same, agreeing-other, agreeing-end}
+use Rattle.gts_standby.proofs.Cited.{arith, sym, agreeing-same, agreeing-other, agreeing-end}
 use Rattle.gts_standby.proofs.header.agreeing.Goals as goal
 use Rattle.gts_standby.proofs.header.agreeing.Goals.{then-i-bytes-via-then-i-bytes, then-i-bytes-via-else-i-bytes+then-bytes-i}
 

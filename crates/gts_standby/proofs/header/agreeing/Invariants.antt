@@ -1,4 +1,4 @@
-use Rattle.std.proofs.Common.{◌≡◌, ◌+◌, drop}
+use Rattle.gts_standby.proofs.Cited.{◌≡◌, ◌+◌, drop}
 use Rattle.gts_opening.specs.Journal.{agreeing}
 use Rattle.gts_standby.proofs.header.agreeing.Given as goal
 

@@ -1,9 +1,8 @@
-use Rattle.std.proofs.Common.{◌++◌, ℕ, List, length, sym, ap, ◌∙◌, arith}
+use Rattle.gts_standby.proofs.Cited.{◌++◌, ℕ, List, length, sym, ap, ◌∙◌, arith, common_steps}
 use Rattle.gts_record.specs.Format.{magic, written}
 use Rattle.gts_opening.specs.Journal as opened
 use Rattle.gts_standby.proofs.HeaderLemmas.{agreeing-low, whole_header, cut_header, other_header}
 use Rattle.gts_standby.proofs.header.take_header.Goals as goal
-use Rattle.std.proofs.lemmas.Grind.{common_steps}
 
 pub pass-requires : goal.pass-requires
 pass-requires g c = grind (arith, common_steps, agreeing-low)

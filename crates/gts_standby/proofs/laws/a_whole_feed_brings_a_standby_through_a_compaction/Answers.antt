@@ -1,5 +1,4 @@
-use Rattle.std.proofs.Common.{ap}
-use Rattle.gts_standby.specs.Cited.{first_seal, seals_behind, selected_bytes, written}
+use Rattle.gts_standby.proofs.Cited.{ap, first_seal, seals_behind, selected_bytes, written}
 use Rattle.gts_standby.proofs.StationLemmas.{anew_whole}
 use Rattle.gts_standby.proofs.laws.a_whole_feed_brings_a_standby_through_a_compaction.Goals as goal
 

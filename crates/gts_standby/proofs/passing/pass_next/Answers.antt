@@ -1,11 +1,8 @@
-use Rattle.std.proofs.Common.{Option, Ok, inl, inr, ap, ◌∙◌, option_map}
-use Rattle.gts_standby.specs.Cited.{record_of}
+use Rattle.gts_standby.proofs.Cited.{Option, Ok, inl, inr, ap, ◌∙◌, option_map, record_of, common_steps, arith}
 use Rattle.gts_record.specs.declared.value.Record.{Record}
 use Rattle.gts_standby.proofs.ExitLemmas.{returned}
 use Rattle.gts_standby.proofs.ShipLemmas.{gone_on}
 use Rattle.gts_standby.proofs.passing.pass_next.Goals as goal
-use Rattle.std.proofs.lemmas.Grind.{common_steps}
-use Rattle.std.proofs.Common.{arith}
 
 pub returns-in-Some-clause-passed : goal.returns-in-Some-clause-passed
 returns-in-Some-clause-passed g c = grind (arith, common_steps, gone_on)

@@ -1,6 +1,4 @@
-use Rattle.std.proofs.Common.{rules, ◌≡◌, ◌-◌, ℕ, List, length, take, drop, sym, ap, subst, ◌∙◌, arith, IsErr}
-use Rattle.std.proofs.lemmas.List.{length-take-le}
-use Rattle.gts_standby.specs.Cited.{Call, SaysFront, SaysHere, on, seen}
+use Rattle.gts_standby.proofs.Cited.{rules, ◌≡◌, ◌-◌, ℕ, List, length, take, drop, sym, ap, subst, ◌∙◌, arith, IsErr, length-take-le, Call, SaysFront, SaysHere, on, seen}
 use Rattle.gts_standby.proofs.SayLemmas.{says_more, said_front, more_of, piece_more, piece_broken, speaks_err}
 use Rattle.gts_standby.proofs.piece.say_part.Goals as goal
 

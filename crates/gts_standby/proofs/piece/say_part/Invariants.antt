@@ -1,5 +1,4 @@
-use Rattle.std.proofs.Common.{◌≡◌, ◌-◌, ◌≤◌, take, drop}
-use Rattle.gts_standby.specs.Cited.{SaysHere, seen}
+use Rattle.gts_standby.proofs.Cited.{◌≡◌, ◌-◌, ◌≤◌, take, drop, SaysHere, seen}
 use Rattle.gts_standby.proofs.piece.say_part.Given as goal
 
 -- the bytes up to a place were said

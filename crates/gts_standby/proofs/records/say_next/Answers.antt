@@ -1,5 +1,4 @@
-use Rattle.std.proofs.Common.{◌≡◌, ◌+◌, ◌-◌, ℕ, Bool, cond, List, Some, Ok, length, take, drop, sym, ap, subst, ◌∙◌, arith}
-use Rattle.gts_standby.specs.Cited.{Call, SaysFront, Speaks, file_of, next_entry, on, record_of, seen, ship_fault}
+use Rattle.gts_standby.proofs.Cited.{◌≡◌, ◌+◌, ◌-◌, ℕ, Bool, cond, List, Some, Ok, length, take, drop, sym, ap, subst, ◌∙◌, arith, Call, SaysFront, Speaks, file_of, next_entry, on, record_of, seen, ship_fault}
 use Rattle.gts_record.specs.declared.value.Record.{Record}
 use Rattle.gts_standby.proofs.ExitLemmas.{returned}
 use Rattle.gts_standby.proofs.SayLemmas.{fronts_none}

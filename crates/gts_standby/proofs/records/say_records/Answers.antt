@@ -1,4 +1,4 @@
-use Rattle.std.proofs.Common.{◌≡◌, ◌+◌, Bool, cond, ap, ◌∙◌, arith}
+use Rattle.gts_standby.proofs.Cited.{◌≡◌, ◌+◌, Bool, cond, ap, ◌∙◌, arith}
 use Rattle.gts_standby.proofs.ExitLemmas.{returned}
 use Rattle.gts_standby.proofs.ShipLemmas.{one_more, broken_off, said_all}
 use Rattle.gts_standby.proofs.records.say_records.Goals as goal

@@ -1,5 +1,4 @@
-use Rattle.std.proofs.Common.{◌≡◌, ◌-◌, ℕ, false, List}
-use Rattle.gts_standby.specs.Cited.{Directory, GoesOnBehind, IsAtGate, StandsOn}
+use Rattle.gts_standby.proofs.Cited.{◌≡◌, ◌-◌, ℕ, false, List, Directory, GoesOnBehind, IsAtGate, StandsOn}
 use Rattle.gts_standby.proofs.records.say_records.Given as goal
 
 -- the records up to a gate were said

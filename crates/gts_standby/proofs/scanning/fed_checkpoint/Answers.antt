@@ -1,5 +1,4 @@
-use Rattle.std.proofs.Common.{rules, ◌≡◌, ◌⊎◌, ◌+◌, ◌≤◌, ℕ, true, false, nat_eq, List, length, take, drop, refl, sym, ap, subst, ◌∙◌, arith}
-use Rattle.gts_standby.specs.Cited.{InFeed, held, seal, seal_size, starts_with}
+use Rattle.gts_standby.proofs.Cited.{rules, ◌≡◌, ◌⊎◌, ◌+◌, ◌≤◌, ℕ, true, false, nat_eq, List, length, take, drop, refl, sym, ap, subst, ◌∙◌, arith, InFeed, held, seal, seal_size, starts_with}
 use Rattle.gts_standby.specs.Taking as feeds
 use Rattle.gts_standby.proofs.ScanLemmas.{finds_err, scan_stops, seal_cut, sealed_piece}
 use Rattle.gts_standby.proofs.scanning.fed_checkpoint.Goals as goal

@@ -1,6 +1,4 @@
-use Rattle.std.proofs.Common.{◌≡◌, ◌+◌, ◌-◌, ℕ, Bool, cond, sym, ap, subst, ◌∙◌, arith, Ok, List, [], ◌∷◌}
-use Rattle.gts_standby.specs.Cited.{Call, Did, IsAtFirst, SaysOnly, Syncs, first_fault, files_read, seen, ship_fault, written}
-use Rattle.gts_traits.proofs.SayLemmas.{said_none}
+use Rattle.gts_standby.proofs.Cited.{◌≡◌, ◌+◌, ◌-◌, ℕ, Bool, cond, sym, ap, subst, ◌∙◌, arith, Ok, List, [], ◌∷◌, Call, Did, IsAtFirst, SaysOnly, Syncs, first_fault, files_read, seen, ship_fault, written, said_none}
 use Rattle.gts_standby.proofs.ExitLemmas.{returned}
 use Rattle.gts_standby.proofs.FirstLemmas.{at_start, read_to, not_started, quiet_start, no_header_fault}
 use Rattle.gts_standby.proofs.shipping.open_first.Goals as goal

@@ -1,12 +1,10 @@
-use Rattle.std.proofs.Common.{rules, ◌≡◌, ◌+◌, ◌-◌, ℕ, true, List, length, take, drop, sym, ap, subst, ◌∙◌, arith}
-use Rattle.gts_standby.specs.Cited.{Call, IsDamage, SaysFront, SaysHere, Version, behind_header, bytes_from, compacted_bytes, file_of, held, is_at_checkpoint, need_of, on, seen, ship_fault}
+use Rattle.gts_standby.proofs.Cited.{rules, ◌≡◌, ◌+◌, ◌-◌, ℕ, true, List, length, take, drop, sym, ap, subst, ◌∙◌, arith, Call, IsDamage, SaysFront, SaysHere, Version, behind_header, bytes_from, compacted_bytes, file_of, held, is_at_checkpoint, need_of, on, seen, ship_fault, common_steps}
 use Rattle.gts_checkpoint.specs.Reading.{HasRead}
 use Rattle.gts_standby.proofs.ExitLemmas.{returned}
 use Rattle.gts_standby.proofs.SayLemmas.{fronts_none}
 use Rattle.gts_standby.proofs.ShipLemmas.{nothing_yet}
 use Rattle.gts_standby.proofs.FirstLemmas.{plain_first, checkpoint_stands, no_damage, quiet_read, said_checkpoint, broken_checkpoint}
 use Rattle.gts_standby.proofs.shipping.say_checkpoint.Goals as goal
-use Rattle.std.proofs.lemmas.Grind.{common_steps}
 
 pub returns-then-not-at_checkpoint-clause-said : goal.returns-then-not-at_checkpoint-clause-said
 returns-then-not-at_checkpoint-clause-said g c = grind (arith, common_steps, nothing_yet, plain_first)

@@ -1,10 +1,7 @@
-use Rattle.std.proofs.Common.{ℕ, take, subst}
-use Rattle.gts_standby.specs.Cited.{SaysHere, seen}
+use Rattle.gts_standby.proofs.Cited.{ℕ, take, subst, SaysHere, seen, common_steps, arith}
 use Rattle.gts_standby.proofs.ExitLemmas.{returned}
 use Rattle.gts_standby.proofs.FirstLemmas.{first_later, said_feed, broken_feed}
 use Rattle.gts_standby.proofs.shipping.say_feed.Goals as goal
-use Rattle.std.proofs.lemmas.Grind.{common_steps}
-use Rattle.std.proofs.Common.{arith}
 
 pub say_checkpoint-requires-clause-first : goal.say_checkpoint-requires-clause-first
 say_checkpoint-requires-clause-first g c = grind (arith, common_steps, first_later)

@@ -1,7 +1,6 @@
 use Rattle.gts_standby.proofs.FirstLemmas.{breaks_opened, says_feed, says_opened, second_quiet}
 use Rattle.gts_standby.proofs.shipping.ship.Goals as goal
-use Rattle.std.proofs.lemmas.Grind.{common_steps}
-use Rattle.std.proofs.Common.{arith}
+use Rattle.gts_standby.proofs.Cited.{common_steps, arith}
 
 pub returns-clause-said : goal.returns-clause-said
 returns-clause-said g c = grind (arith, common_steps, says_opened, second_quiet, says_feed)

@@ -1,11 +1,8 @@
-use Rattle.std.proofs.Common.{rules, ◌≡◌, true, false}
-use Rattle.gts_standby.specs.Cited.{first_fault, seen, ship_fault, since_of}
+use Rattle.gts_standby.proofs.Cited.{rules, ◌≡◌, true, false, first_fault, seen, ship_fault, since_of, common_steps, arith}
 use Rattle.gts_standby.proofs.ExitLemmas.{returned}
 use Rattle.gts_standby.proofs.FirstLemmas.{at_opened, says_opened, breaks_opened, second_quiet, failed_quietly, not_started, quiet_start, no_fault_where}
 use Rattle.gts_standby.proofs.SinceLemmas.{rest_since, rest_whole, looked_quietly, again_quietly, read_later}
 use Rattle.gts_standby.proofs.shipping.ship_since.Goals as goal
-use Rattle.std.proofs.lemmas.Grind.{common_steps}
-use Rattle.std.proofs.Common.{arith}
 
 pub returns-in_err-look_for-clause-fault : goal.returns-in_err-look_for-clause-fault
 returns-in_err-look_for-clause-fault g c = grind (arith, common_steps, returned, failed_quietly, looked_quietly)

@@ -1,5 +1,4 @@
-use Rattle.std.proofs.Common.{rules, ◌≡◌, ◌⊎◌, ◌≤◌, ◌+◌, ◌-◌, ℕ, Bool, false, cond, nat_eq, List, Option, ap, ◌∙◌, arith}
-use Rattle.gts_standby.specs.Cited.{Version, behind_here, held, pointwise}
+use Rattle.gts_standby.proofs.Cited.{rules, ◌≡◌, ◌⊎◌, ◌≤◌, ◌+◌, ◌-◌, ℕ, Bool, false, cond, nat_eq, List, Option, ap, ◌∙◌, arith, Version, behind_here, held, pointwise}
 use Rattle.gts_standby.proofs.ExitLemmas.{returned}
 use Rattle.gts_standby.proofs.SinceLemmas.{reached_one, finds_there, finds_elsewhere}
 use Rattle.gts_standby.proofs.since.look_for.Goals as goal

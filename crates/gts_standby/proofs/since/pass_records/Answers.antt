@@ -1,10 +1,8 @@
-use Rattle.std.proofs.Common.{◌≡◌, ◌+◌, Bool, cond, ap, ◌∙◌, arith}
-use Rattle.gts_standby.specs.Cited.{file_of, ship_fault}
+use Rattle.gts_standby.proofs.Cited.{◌≡◌, ◌+◌, Bool, cond, ap, ◌∙◌, arith, file_of, ship_fault, common_steps}
 use Rattle.gts_standby.proofs.ExitLemmas.{returned}
 use Rattle.gts_standby.proofs.ShipLemmas.{quiet_passed}
 use Rattle.gts_standby.proofs.SinceLemmas.{before_on, comes_to_end}
 use Rattle.gts_standby.proofs.since.pass_records.Goals as goal
-use Rattle.std.proofs.lemmas.Grind.{common_steps}
 
 pub loop-station-preserved : goal.loop-station-preserved
 loop-station-preserved g c = grind (arith, common_steps, before_on)

@@ -1,5 +1,4 @@
-use Rattle.std.proofs.Common.{◌≡◌, ◌-◌, ℕ, false, List, Option}
-use Rattle.gts_standby.specs.Cited.{Directory, IsBefore, IsWithin, StandsOn}
+use Rattle.gts_standby.proofs.Cited.{◌≡◌, ◌-◌, ℕ, false, List, Option, Directory, IsBefore, IsWithin, StandsOn}
 use Rattle.gts_standby.proofs.since.pass_records.Given as goal
 
 -- the records up to a gate were passed over

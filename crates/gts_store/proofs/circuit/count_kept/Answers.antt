@@ -1,5 +1,4 @@
-use Rattle.std.proofs.Common.{arith}
-use Rattle.std.proofs.lemmas.List.{length-map}
+use Rattle.gts_store.proofs.Cited.{arith, length-map}
 use Rattle.gts_store.specs.Entries.{position_in}
 use Rattle.gts_store.proofs.circuit.count_kept.Goals as goal
 

@@ -1,8 +1,6 @@
 -- A word of six letters or seven is told by its length and each of its bytes.
-use Rattle.std.proofs.Common.{◌≡◌, ℕ, List, Option, Some, refl, sym, ap, ◌∙◌, arith}
+use Rattle.gts_words.proofs.Cited.{◌≡◌, ℕ, List, Option, Some, refl, sym, ap, ◌∙◌, arith, text_from_reads, alone}
 use Rattle.std.specs.Prelude.{codes}
-use Rattle.std.proofs.lemmas.Slice.Eq.{text_from_reads}
-use Rattle.gts_words.specs.Cited.{alone}
 use Rattle.gts_words.specs.declared.command.Command.{Command}
 use Rattle.gts_words.specs.declared.command.Command.TheVariants.{Compact, Follow, Migrate, Replay}
 use Rattle.gts_words.proofs.reading.alone.Goals as goal

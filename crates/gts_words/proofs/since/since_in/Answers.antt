@@ -1,4 +1,4 @@
-use Rattle.std.proofs.Common.{◌∙◌, sym}
+use Rattle.gts_words.proofs.Cited.{◌∙◌, sym}
 use Rattle.gts_words.proofs.WordLemmas.{four_words}
 use Rattle.gts_words.proofs.since.since_in.Goals as goal
 

@@ -1,8 +1,4 @@
-use Rattle.std.proofs.Common.{◌≡◌, ℕ, ◌-◌, ◌≤◌, true, false, List, length, take, drop, refl, sym, ap, ◌∙◌, arith, length-drop}
-use Rattle.gts_words.specs.Cited.{LONGEST_USED, digits_value, is_ascii_digit, list_all, used_in}
-use Rattle.std.proofs.lemmas.List.{take_all}
-use Rattle.std.proofs.lemmas.Bool.{true≢false, false_from_ne_true}
-use Rattle.std.proofs.lemmas.Grind.{common_steps}
+use Rattle.gts_words.proofs.Cited.{◌≡◌, ℕ, ◌-◌, ◌≤◌, true, false, List, length, take, drop, refl, sym, ap, ◌∙◌, arith, length-drop, LONGEST_USED, digits_value, is_ascii_digit, list_all, used_in, take_all, true≢false, false_from_ne_true, common_steps}
 use Rattle.gts_words.proofs.CountLemmas.{front_fails, back_fails, both_pass}
 use Rattle.gts_words.proofs.since.used_in.Goals as goal
 

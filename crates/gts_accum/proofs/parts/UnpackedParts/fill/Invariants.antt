@@ -1,5 +1,4 @@
-use Rattle.std.proofs.Common.{◌≡◌, [], length}
-use Rattle.gts_accum.specs.Cited.{Head, IsSound, Passes, ahead, missing, unpacking_of}
+use Rattle.gts_accum.proofs.Cited.{◌≡◌, [], length, Head, IsSound, Passes, ahead, missing, unpacking_of}
 use Rattle.gts_accum.proofs.parts.UnpackedParts.fill.Given as goal
 
 abbrev pub invariant-loop-self : goal.invariant-loop-self

@@ -1,8 +1,6 @@
-use Rattle.std.proofs.Common.{drop, arith}
-use Rattle.std.proofs.lemmas.List.{length-take}
+use Rattle.gts_accum.proofs.Cited.{drop, arith, length-take, common_steps}
 use Rattle.gts_accum.proofs.PassingLemmas.{gives-by, passes-last, passes-more}
 use Rattle.gts_accum.proofs.parts.UnpackedParts.pass_on.Goals as goal
-use Rattle.std.proofs.lemmas.Grind.{common_steps}
 
 pub returns-then-left-eq0-clause-passes : goal.returns-then-left-eq0-clause-passes
 returns-then-left-eq0-clause-passes g c = λ observed.

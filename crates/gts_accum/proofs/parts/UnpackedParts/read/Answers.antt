@@ -1,4 +1,4 @@
-use Rattle.gts_accum.specs.Cited.{given_by, unpacking_of}
+use Rattle.gts_accum.proofs.Cited.{given_by, unpacking_of}
 use Rattle.gts_accum.proofs.PassingLemmas.{passes-then}
 use Rattle.gts_accum.proofs.parts.UnpackedParts.read.Goals as goal
 

@@ -1,4 +1,4 @@
-use Rattle.std.proofs.Common.{◌∙◌, arith}
+use Rattle.gts_accum.proofs.Cited.{◌∙◌, arith}
 use Rattle.gts_accum.proofs.PassingLemmas.{covers-on}
 use Rattle.gts_accum.proofs.traced.Traced.bad.Goals as goal
 

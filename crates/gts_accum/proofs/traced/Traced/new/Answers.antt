@@ -1,5 +1,4 @@
-use Rattle.std.proofs.Common.{ℕ, length, ap, ◌∙◌, arith}
-use Rattle.gts_accum.specs.Cited.{badplace, reading, rest_of}
+use Rattle.gts_accum.proofs.Cited.{ℕ, length, ap, ◌∙◌, arith, badplace, reading, rest_of}
 use Rattle.gts_accum.proofs.PassingLemmas.{covers-fresh}
 use Rattle.gts_accum.proofs.traced.Traced.new.Goals as goal
 

@@ -1,5 +1,4 @@
-use Rattle.std.proofs.Common.{ℕ, List, ◌++◌, Err, refl, sym, ap, subst, ◌∙◌}
-use Rattle.gts_app.specs.Cited.{OpenFault, TakesOver, changes, need}
+use Rattle.gts_app.proofs.Cited.{ℕ, List, ◌++◌, Err, refl, sym, ap, subst, ◌∙◌, OpenFault, TakesOver, changes, need}
 use Rattle.gts_app.proofs.TryingLemmas.{new_unread, old_unread, not_opened, reported, not_said}
 use Rattle.gts_app.proofs.SoundLemmas.{refusal_fails}
 use Rattle.gts_app.proofs.commands.check.check.Goals as goal

@@ -1,10 +1,7 @@
-use Rattle.std.proofs.Common.{sym, subst}
-use Rattle.gts_app.specs.Cited.{Compacts, Status}
+use Rattle.gts_app.proofs.Cited.{sym, subst, Compacts, Status, common_steps, arith}
 use Rattle.gts_app.proofs.CompactLemmas.{not_compacted, compacts}
 use Rattle.gts_app.proofs.SoundLemmas.{unopened, compacted, none_of}
 use Rattle.gts_app.proofs.commands.compact.compact.Goals as goal
-use Rattle.std.proofs.lemmas.Grind.{common_steps}
-use Rattle.std.proofs.Common.{arith}
 
 pub returns-in-Err-clause-compacts : goal.returns-in-Err-clause-compacts
 returns-in-Err-clause-compacts g c = not_compacted _ _ c.in-Err.field-0.status _ _ _ c.in-Err.field-0.station c.in-Err.ensures

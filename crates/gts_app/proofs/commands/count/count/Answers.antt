@@ -1,5 +1,4 @@
-use Rattle.std.proofs.Common.{◌≡◌, ◌≤◌, length, Ok, sym, ap, subst, ◌∙◌, arith, ℕ, refl}
-use Rattle.gts_app.specs.Cited.{Counted, CountsTraffic, Engine, IsUnfailed, Opens, ShowsTable, Status, switch_meanings, world}
+use Rattle.gts_app.proofs.Cited.{◌≡◌, ◌≤◌, length, Ok, sym, ap, subst, ◌∙◌, arith, ℕ, refl, Counted, CountsTraffic, Engine, IsUnfailed, Opens, ShowsTable, Status, switch_meanings, world}
 use Rattle.gts_app.proofs.EndLemmas.{Leaves}
 use Rattle.gts_app.proofs.TrafficLemmas.{not_counted, without_numbers, ended, said_so}
 use Rattle.gts_app.proofs.SoundLemmas.{unopened, said, on_ok}

@@ -1,5 +1,4 @@
-use Rattle.std.proofs.Common.{IsTrue, sym, subst}
-use Rattle.gts_app.specs.Cited.{is_sound, need_of}
+use Rattle.gts_app.proofs.Cited.{IsTrue, sym, subst, is_sound, need_of}
 use Rattle.gts_directory.specs.Directory.{Directory}
 use Rattle.gts_app.proofs.commands.count.count_beside.Goals as goal
 

@@ -1,5 +1,4 @@
-use Rattle.std.proofs.Common.{sym, subst}
-use Rattle.gts_app.specs.Cited.{FollowsFeed, Status, world}
+use Rattle.gts_app.proofs.Cited.{sym, subst, FollowsFeed, Status, world}
 use Rattle.gts_app.proofs.FollowLemmas.{unfollowed, followed, named_fault}
 use Rattle.gts_app.proofs.commands.follow.follow.Goals as goal
 

@@ -1,5 +1,4 @@
-use Rattle.std.proofs.Common.{sym, subst}
-use Rattle.gts_app.specs.Cited.{NamesGaps, Status, world}
+use Rattle.gts_app.proofs.Cited.{sym, subst, NamesGaps, Status, world}
 use Rattle.gts_app.proofs.StreamLemmas.{gaps_unread, gaps_ends}
 use Rattle.gts_app.proofs.commands.gaps.gaps.Goals as goal
 

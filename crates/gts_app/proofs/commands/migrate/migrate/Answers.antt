@@ -1,4 +1,4 @@
-use Rattle.std.proofs.Common.{refl}
+use Rattle.gts_app.proofs.Cited.{refl}
 use Rattle.gts_app.proofs.MigrateLemmas.{new_unread, old_unread, taken_over}
 use Rattle.gts_app.proofs.commands.migrate.migrate.Goals as goal
 

@@ -1,5 +1,4 @@
-use Rattle.std.proofs.Common.{sym, subst}
-use Rattle.gts_app.specs.Cited.{PacksStream, Status, world}
+use Rattle.gts_app.proofs.Cited.{sym, subst, PacksStream, Status, world}
 use Rattle.gts_app.proofs.StreamLemmas.{pack_unread, pack_ends}
 use Rattle.gts_app.proofs.commands.pack.pack.Goals as goal
 

@@ -1,5 +1,4 @@
-use Rattle.std.proofs.Common.{◌≡◌, Option, None, Some, sym, subst}
-use Rattle.gts_app.specs.Cited.{ShipsFeed, Since, Status, status_shipped}
+use Rattle.gts_app.proofs.Cited.{◌≡◌, Option, None, Some, sym, subst, ShipsFeed, Since, Status, status_shipped}
 use Rattle.gts_app.proofs.ShippingLemmas.{ship_unread, ship_ends}
 use Rattle.gts_app.proofs.commands.ship.ship.Goals as goal
 

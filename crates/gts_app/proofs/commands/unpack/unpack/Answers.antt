@@ -1,6 +1,5 @@
-use Rattle.std.proofs.Common.{◌≡◌, ◌<◌, ◌≤◌, Ok, length, refl, sym, ap, subst, arith, ◌∙◌}
+use Rattle.gts_app.proofs.Cited.{◌≡◌, ◌<◌, ◌≤◌, Ok, length, refl, sym, ap, subst, arith, ◌∙◌, IsUnfailedFile, directory_of_bytes}
 use Rattle.gts_directory.specs.Directory as directories
-use Rattle.gts_app.specs.Cited.{IsUnfailedFile, directory_of_bytes}
 use Rattle.gts_app.proofs.UnpackLemmas.{unpacks, unaccepted, unopened, done-is}
 use Rattle.gts_app.proofs.SoundLemmas.{unopened as unopened_fails}
 use Rattle.gts_app.proofs.commands.unpack.unpack.Goals as goal

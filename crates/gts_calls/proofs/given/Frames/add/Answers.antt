@@ -1,8 +1,6 @@
-use Rattle.std.proofs.Common.{arith}
-use Rattle.std.proofs.lemmas.List.{with_items_is, take_more_set, length-take-le}
+use Rattle.gts_calls.proofs.Cited.{arith, with_items_is, take_more_set, length-take-le, common_steps}
 use Rattle.gts_calls.proofs.GivenLemmas.{frames_more, put_behind}
 use Rattle.gts_calls.proofs.given.Frames.add.Goals as goal
-use Rattle.std.proofs.lemmas.Grind.{common_steps}
 
 pub returns : goal.returns
 returns c = grind (arith, common_steps, length-take-le, put_behind, with_items_is, take_more_set, frames_more)

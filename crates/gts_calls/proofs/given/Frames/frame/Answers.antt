@@ -1,7 +1,4 @@
-use Rattle.std.proofs.Common.{◌≡◌, ◌+◌, ◌-◌, ◌<◌, ◌≤◌, ℕ, suc, List, length, take, drop, Some, sym, ap, subst, ◌∙◌, arith, slice_get}
-use Rattle.gts_calls.specs.Cited.{Frame, Laid, Placed, frames_of, no_frame, sizes_of, slice_index_or}
-use Rattle.std.proofs.lemmas.List.{get_or-take, length-take-le}
-use Rattle.std.proofs.lemmas.Option.{slice_get-get_or}
+use Rattle.gts_calls.proofs.Cited.{◌≡◌, ◌+◌, ◌-◌, ◌<◌, ◌≤◌, ℕ, suc, List, length, take, drop, Some, sym, ap, subst, ◌∙◌, arith, slice_get, Frame, Laid, Placed, frames_of, no_frame, sizes_of, slice_index_or, get_or-take, length-take-le, slice_get-get_or}
 use Rattle.gts_calls.proofs.GivenLemmas.{frame_at, sizes_next, sizes_within, within_front}
 use Rattle.gts_calls.proofs.given.Frames.frame.Goals as goal
 

@@ -1,7 +1,6 @@
 use Rattle.gts_checkpoint.proofs.CheckpointBytesLemmas.{counted-laid, taken-laid}
 use Rattle.gts_checkpoint.proofs.checkpoint_bytes.CheckpointBytesStation.read.Goals as goal
-use Rattle.std.proofs.lemmas.Grind.{common_steps}
-use Rattle.std.proofs.Common.{arith}
+use Rattle.gts_checkpoint.proofs.Cited.{common_steps, arith}
 
 pub returns-clause-count : goal.returns-clause-count
 returns-clause-count c = grind (arith, common_steps, counted-laid)

@@ -1,5 +1,4 @@
-use Rattle.std.proofs.Common.{refl, subst}
-use Rattle.gts_checkpoint.specs.Cited.{OnlyOn, Writes}
+use Rattle.gts_checkpoint.proofs.Cited.{refl, subst, OnlyOn, Writes}
 use Rattle.gts_checkpoint.specs.SealingWriter as writers
 use Rattle.gts_checkpoint.proofs.AloneLemmas.{one_on}
 use Rattle.gts_checkpoint.proofs.writer.SealingWriter.flush.Goals as goal

@@ -1,5 +1,4 @@
-use Rattle.std.proofs.Common.{◌≡◌, ◌++◌, Bool, true, List, length, sym, ap, subst, ◌∙◌, arith}
-use Rattle.gts_circuits.specs.Cited.{Engine, Frame, HasTaken, count_of, frames_by, frames_of}
+use Rattle.gts_circuits.proofs.Cited.{◌≡◌, ◌++◌, Bool, true, List, length, sym, ap, subst, ◌∙◌, arith, Engine, Frame, HasTaken, count_of, frames_by, frames_of}
 use Rattle.gts_circuits.proofs.TakingLemmas.{count_frames, count_more, one_behind}
 use Rattle.gts_circuits.proofs.hall.taking.take_behind.Goals as goal
 

@@ -1,5 +1,4 @@
-use Rattle.std.proofs.Common.{◌≡◌, ◌≤◌, ◌+◌, ◌-◌, List}
-use Rattle.gts_circuits.specs.Cited.{Entry, HasTaken, count_of, frames_of}
+use Rattle.gts_circuits.proofs.Cited.{◌≡◌, ◌≤◌, ◌+◌, ◌-◌, List, Entry, HasTaken, count_of, frames_of}
 use Rattle.gts_circuits.proofs.hall.taking.take_behind.Given as goal
 
 -- so far takes gave these frames

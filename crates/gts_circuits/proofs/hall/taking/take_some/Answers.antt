@@ -1,7 +1,4 @@
-use Rattle.std.proofs.Common.{◌≡◌, ◌≤◌, ◌++◌, [], Bool, List, ℕ, Err, Some, map, refl, sym, ap, subst, ◌∙◌, arith, slice_get, slice_index_or}
-use Rattle.std.proofs.lemmas.Result.{err_from_is_err_and}
-use Rattle.gts_directory.specs.Cited.{circuit_of_row}
-use Rattle.gts_circuits.specs.Cited.{Caller, Circuit, Directory, Entry, Frame, HasTaken, LeavesTaken, Outcome, SwitchFault, count_of, frames_by, frames_of}
+use Rattle.gts_circuits.proofs.Cited.{◌≡◌, ◌≤◌, ◌++◌, [], Bool, List, ℕ, Err, Some, map, refl, sym, ap, subst, ◌∙◌, arith, slice_get, slice_index_or, err_from_is_err_and, circuit_of_row, Caller, Circuit, Directory, Entry, Frame, HasTaken, LeavesTaken, Outcome, SwitchFault, count_of, frames_by, frames_of}
 use Rattle.gts_circuits.proofs.TakingLemmas.{first_fails, first_taken, most_at, settles_taken, settling_fails}
 use Rattle.gts_circuits.proofs.hall.taking.take_some.Goals as goal
 

@@ -1,11 +1,7 @@
-use Rattle.std.proofs.Common.{◌≡◌, ◌++◌, ℕ, List, take, sym, ap, ◌∙◌, subst}
-use Rattle.gts_circuits.specs.Cited.{AddsFor, Decoding, EndsOver, Entry, Event, Feeding, Feeds, GoesOver, Known, after_adding, all_of, entries, entries_under, held_in, seen_by, settled}
-use Rattle.gts_calls.specs.Cited.{Reads}
+use Rattle.gts_circuits.proofs.Cited.{◌≡◌, ◌++◌, ℕ, List, take, sym, ap, ◌∙◌, subst, AddsFor, Decoding, EndsOver, Entry, Event, Feeding, Feeds, GoesOver, Known, after_adding, all_of, entries, entries_under, held_in, seen_by, settled, Reads, common_steps, arith}
 use Rattle.gts_circuits.proofs.TurningLemmas.{feeds}
 use Rattle.gts_circuits.proofs.FeedingLemmas.{N, fed_more, feeds_spent, short_settled}
 use Rattle.gts_circuits.proofs.hall.turns.feed.Goals as goal
-use Rattle.std.proofs.lemmas.Grind.{common_steps}
-use Rattle.std.proofs.Common.{arith}
 
 pub leave-requires : goal.leave-requires
 leave-requires g c =

@@ -1,5 +1,4 @@
-use Rattle.std.proofs.Common.{List, take}
-use Rattle.gts_circuits.specs.Cited.{AddsFor, Entry, Feeding}
+use Rattle.gts_circuits.proofs.Cited.{List, take, AddsFor, Entry, Feeding}
 use Rattle.gts_circuits.proofs.hall.turns.feed.Given as goal
 
 abbrev pub ghosts-leave : goal.ghosts-leave

@@ -1,9 +1,6 @@
-use Rattle.std.proofs.Common.{◌≡◌, List, [], ◌∷◌, ◌++◌, refl, sym, ap, ◌∙◌, subst}
-use Rattle.gts_circuits.specs.Cited.{Engine, Entry, Heard, Known, SaysNoMore, Stands, after_adding, all_of, entries, entries_under, entry_by}
+use Rattle.gts_circuits.proofs.Cited.{◌≡◌, List, [], ◌∷◌, ◌++◌, refl, sym, ap, ◌∙◌, subst, Engine, Entry, Heard, Known, SaysNoMore, Stands, after_adding, all_of, entries, entries_under, entry_by, common_steps, arith}
 use Rattle.gts_circuits.proofs.TurningLemmas.{answers}
 use Rattle.gts_circuits.proofs.hall.turns.hear.Goals as goal
-use Rattle.std.proofs.lemmas.Grind.{common_steps}
-use Rattle.std.proofs.Common.{arith}
 
 pub leave-requires-clause-value : goal.leave-requires-clause-value
 leave-requires-clause-value g c =

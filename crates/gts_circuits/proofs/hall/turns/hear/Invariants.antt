@@ -1,5 +1,4 @@
-use Rattle.std.proofs.Common.{◌≡◌, List, [], ◌∷◌}
-use Rattle.gts_circuits.specs.Cited.{Entry, Heard, entry_by}
+use Rattle.gts_circuits.proofs.Cited.{◌≡◌, List, [], ◌∷◌, Entry, Heard, entry_by}
 use Rattle.gts_circuits.proofs.hall.turns.hear.Given as goal
 
 abbrev pub ghosts-leave : goal.ghosts-leave

@@ -1,9 +1,6 @@
-use Rattle.std.proofs.Common.{◌≡◌, List, sym, ap, subst}
-use Rattle.gts_circuits.specs.Cited.{Engine, Entry, Known, Stands, after_adding, all_of, entries, entries_under, frames_of}
+use Rattle.gts_circuits.proofs.Cited.{◌≡◌, List, sym, ap, subst, Engine, Entry, Known, Stands, after_adding, all_of, entries, entries_under, frames_of, common_steps, arith}
 use Rattle.gts_circuits.proofs.TurningLemmas.{takes_some}
 use Rattle.gts_circuits.proofs.hall.turns.take_some.Goals as goal
-use Rattle.std.proofs.lemmas.Grind.{common_steps}
-use Rattle.std.proofs.Common.{arith}
 
 pub leave-requires-clause-value : goal.leave-requires-clause-value
 leave-requires-clause-value g c =

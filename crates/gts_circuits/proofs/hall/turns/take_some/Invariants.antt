@@ -1,5 +1,4 @@
-use Rattle.std.proofs.Common.{List}
-use Rattle.gts_circuits.specs.Cited.{Entry, LeavesTaken, all_of, entries, frames_of}
+use Rattle.gts_circuits.proofs.Cited.{List, Entry, LeavesTaken, all_of, entries, frames_of}
 use Rattle.gts_circuits.proofs.hall.turns.take_some.Given as goal
 
 abbrev pub ghosts-leave : goal.ghosts-leave

@@ -1,8 +1,5 @@
-use Rattle.std.proofs.Common.{◌≡◌, ◌+◌, ◌∷◌, [], List, length, length-append, inl, inr, ⊎_elim, refl, ap, ◌∙◌, arith}
-use Rattle.std.proofs.lemmas.List.{append-nil}
-use lib.ListN.{get_elem?}
+use Rattle.gts_circuits.proofs.Cited.{◌≡◌, ◌+◌, ◌∷◌, [], List, length, length-append, inl, inr, ⊎_elim, refl, ap, ◌∙◌, arith, append-nil, get_elem?, ends_of, lines_seen}
 use Rattle.gts_circuits.proofs.PlacesLemmas.{at_less, in_middle}
-use Rattle.gts_circuits.specs.Cited.{ends_of, lines_seen}
 use Rattle.gts_circuits.proofs.LinesLemmas.{same_itself, same_still, closed_now, closed_back}
 use Rattle.gts_circuits.proofs.PartingLemmas.{last_place, fault_more}
 use Rattle.gts_circuits.proofs.service.closing.close_all.Goals as goal

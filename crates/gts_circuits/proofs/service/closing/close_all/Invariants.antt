@@ -1,7 +1,4 @@
-use Rattle.std.proofs.Common.{◌≡◌, ◌⊎◌, ℕ, ◌<◌, ◌≤◌, ◌++◌, List, length, vec_len}
-use mathlib.Core.Option.{some}
-use lib.ListN.{get_elem?}
-use Rattle.gts_circuits.specs.Cited.{Incoming, IsClosed, IsSame, Outgoing, ends_of, first_fault, lines_seen}
+use Rattle.gts_circuits.proofs.Cited.{◌≡◌, ◌⊎◌, ℕ, ◌<◌, ◌≤◌, ◌++◌, List, length, vec_len, some, get_elem?, Incoming, IsClosed, IsSame, Outgoing, ends_of, first_fault, lines_seen}
 use Rattle.gts_circuits.proofs.service.closing.close_all.Given as goal
 
 -- the last circuits are closed, and the others are as they were

@@ -1,4 +1,4 @@
-use Rattle.std.proofs.Common.{refl}
+use Rattle.gts_circuits.proofs.Cited.{refl}
 use Rattle.gts_circuits.proofs.DrainLemmas.{drains_none, drains_all}
 use Rattle.gts_circuits.proofs.service.draining.drain.Goals as goal
 

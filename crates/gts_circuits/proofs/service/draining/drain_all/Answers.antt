@@ -1,5 +1,4 @@
-use Rattle.std.proofs.Common.{◌<◌, length, sym, ap, ◌∙◌, arith, slice_set}
-use mathlib.Core.Option.{some}
+use Rattle.gts_circuits.proofs.Cited.{◌<◌, length, sym, ap, ◌∙◌, arith, slice_set, some}
 use Rattle.gts_circuits.proofs.ItemLemmas.{item_at, set_at, not_set, count_set}
 use Rattle.gts_circuits.proofs.DrainLemmas.{drained_more}
 use Rattle.gts_circuits.proofs.service.draining.drain_all.Goals as goal

@@ -1,4 +1,4 @@
-use Rattle.std.proofs.Common.{◌≡◌, length}
+use Rattle.gts_circuits.proofs.Cited.{◌≡◌, length}
 use Rattle.gts_circuits.specs.Standing.{AreDrained}
 use Rattle.gts_circuits.proofs.service.draining.drain_all.Given as goal
 

@@ -1,6 +1,4 @@
-use Rattle.std.proofs.Common.{rules, ℕ, ◌++◌, [], List, Bool, Ok, refl, sym, ap, ◌∙◌, subst, append_assoc}
-use Rattle.std.proofs.lemmas.List.{append-nil}
-use Rattle.gts_circuits.specs.Cited.{Quiet, Sending, Sends, TakesOnce}
+use Rattle.gts_circuits.proofs.Cited.{rules, ℕ, ◌++◌, [], List, Bool, Ok, refl, sym, ap, ◌∙◌, subst, append_assoc, append-nil, Quiet, Sending, Sends, TakesOnce}
 use Rattle.gts_circuits.proofs.ServeTakingLemmas.{none_yet, then_more}
 use Rattle.gts_circuits.proofs.service.draining.take_all.Goals as goal
 

@@ -1,5 +1,4 @@
-use Rattle.std.proofs.Common.{◌≡◌, ℕ, ◌++◌, List}
-use Rattle.gts_circuits.specs.Standing.{TakesSome}
+use Rattle.gts_circuits.proofs.Cited.{◌≡◌, ℕ, ◌++◌, List, TakesSome}
 use Rattle.gts_circuits.proofs.service.draining.take_all.Given as goal
 
 -- the frame of each take was written

@@ -1,6 +1,4 @@
-use Rattle.std.proofs.Common.{[], sym}
-use Rattle.std.proofs.lemmas.List.{append-nil}
-use Rattle.std.proofs.lemmas.Result.{err_from_is_err_and}
+use Rattle.gts_circuits.proofs.Cited.{[], sym, append-nil, err_from_is_err_and}
 use Rattle.gts_circuits.proofs.ServeTakingLemmas.{once_failed, once_given}
 use Rattle.gts_circuits.proofs.service.draining.take_one.Goals as goal
 

@@ -1,10 +1,8 @@
-use Rattle.std.proofs.Common.{◌≡◌, ℕ, ◌+◌, ◌∷◌, ◌++◌, [], length, length-append, append_assoc, sym, ap, ◌∙◌, subst, arith}
-use lib.ListN.{get_elem?}
-use Rattle.gts_circuits.proofs.PlacesLemmas.{at_less, in_middle, nothing_left}
+use Rattle.gts_circuits.proofs.Cited.{◌≡◌, ℕ, ◌+◌, ◌∷◌, ◌++◌, [], length, length-append, append_assoc, sym, ap, ◌∙◌, subst, arith, get_elem?, common_steps}
 use Rattle.gts_circuits.specs.Serving.{lines_seen}
+use Rattle.gts_circuits.proofs.PlacesLemmas.{at_less, in_middle, nothing_left}
 use Rattle.gts_circuits.proofs.LinesLemmas.{same_itself, same_still, closed_now, closed_more}
 use Rattle.gts_circuits.proofs.service.opening.close_opened.Goals as goal
-use Rattle.std.proofs.lemmas.Grind.{common_steps}
 
 pub loop-both-init : goal.loop-both-init
 loop-both-init g c = grind (arith, common_steps, same_itself)

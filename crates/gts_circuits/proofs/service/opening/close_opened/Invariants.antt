@@ -1,7 +1,4 @@
-use Rattle.std.proofs.Common.{◌≡◌, ℕ, ◌<◌, ◌≤◌, ◌++◌, length}
-use mathlib.Core.Option.{some}
-use lib.ListN.{get_elem?}
-use Rattle.gts_circuits.specs.Cited.{IsClosed, IsSame, Sockets, lines_seen}
+use Rattle.gts_circuits.proofs.Cited.{◌≡◌, ℕ, ◌<◌, ◌≤◌, ◌++◌, length, some, get_elem?, IsClosed, IsSame, Sockets, lines_seen}
 use Rattle.gts_circuits.proofs.service.opening.close_opened.Given as goal
 
 -- the circuits so far are closed, and the others are as they were

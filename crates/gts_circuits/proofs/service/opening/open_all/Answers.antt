@@ -1,9 +1,8 @@
-use Rattle.std.proofs.Common.{arith}
+use Rattle.gts_circuits.proofs.Cited.{arith, common_steps}
 use Rattle.gts_circuits.proofs.PlacesLemmas.{nothing_left}
 use Rattle.gts_circuits.proofs.ItemLemmas.{less_than_all, asked_at}
 use Rattle.gts_circuits.proofs.LinesLemmas.{none_opened, one_opened, one_failed}
 use Rattle.gts_circuits.proofs.service.opening.open_all.Goals as goal
-use Rattle.std.proofs.lemmas.Grind.{common_steps}
 
 pub loop-room-init : goal.loop-room-init
 loop-room-init g c = grind (arith, common_steps, none_opened)

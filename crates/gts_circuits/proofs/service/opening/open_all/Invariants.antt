@@ -1,5 +1,4 @@
-use Rattle.std.proofs.Common.{◌≡◌, ◌≤◌, ◌++◌, length, map, vec_capacity}
-use Rattle.gts_circuits.specs.Cited.{AreOpened, lines_seen, place_asked}
+use Rattle.gts_circuits.proofs.Cited.{◌≡◌, ◌≤◌, ◌++◌, length, map, vec_capacity, AreOpened, lines_seen, place_asked}
 use Rattle.gts_circuits.proofs.service.opening.open_all.Given as goal
 
 -- the circuits so far are open

@@ -1,4 +1,4 @@
-use Rattle.std.proofs.Common.{rules, ◌≡◌, ◌∷◌, ◌++◌, [], List, length, length-append, append_assoc, ap, ◌∙◌, subst, arith}
+use Rattle.gts_circuits.proofs.Cited.{rules, ◌≡◌, ◌∷◌, ◌++◌, [], List, length, length-append, append_assoc, ap, ◌∙◌, subst, arith}
 use Rattle.gts_circuits.proofs.PlacesLemmas.{in_middle}
 use Rattle.gts_circuits.proofs.PartingLemmas.{source_ended, sink_ended, source_more, sink_more, no_source, no_sink}
 use Rattle.gts_circuits.proofs.service.parting.part.Goals as goal

@@ -1,4 +1,4 @@
-use Rattle.std.proofs.Common.{◌≡◌, ◌≤◌, ◌++◌, length, vec_capacity}
+use Rattle.gts_circuits.proofs.Cited.{◌≡◌, ◌≤◌, ◌++◌, length, vec_capacity}
 use Rattle.gts_circuits.specs.ServePassing.{incoming_of, outgoing_of}
 use Rattle.gts_circuits.proofs.service.parting.part.Given as goal
 

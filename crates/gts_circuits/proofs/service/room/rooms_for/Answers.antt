@@ -1,4 +1,4 @@
-use Rattle.std.proofs.Common.{◌+◌, ◌∷◌, [], List, length, length-append, ap, ◌∙◌, arith}
+use Rattle.gts_circuits.proofs.Cited.{◌+◌, ◌∷◌, [], List, length, length-append, ap, ◌∙◌, arith}
 use Rattle.gts_directory.specs.Rows.{circuit_of_row}
 use Rattle.gts_circuits.proofs.ItemLemmas.{rooms_more}
 use Rattle.gts_circuits.proofs.service.room.rooms_for.Goals as goal

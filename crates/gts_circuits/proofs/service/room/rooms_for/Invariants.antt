@@ -1,5 +1,4 @@
-use Rattle.std.proofs.Common.{◌≡◌, ◌≤◌, length, map, take, vec_capacity}
-use Rattle.gts_circuits.specs.Cited.{place_asked, place_of}
+use Rattle.gts_circuits.proofs.Cited.{◌≡◌, ◌≤◌, length, map, take, vec_capacity, place_asked, place_of}
 use Rattle.gts_circuits.proofs.service.room.rooms_for.Given as goal
 
 -- one for each circuit so far

@@ -1,7 +1,4 @@
-use Rattle.std.proofs.Common.{◌≡◌, ℕ, List, length, sym, ap, ◌∙◌, subst, arith}
-use mathlib.Core.Option.{some}
-use lib.ListN.{get_elem?}
-use Rattle.gts_circuits.specs.Cited.{AreDrained, Incoming, Outgoing, ends_of, first_fault}
+use Rattle.gts_circuits.proofs.Cited.{◌≡◌, ℕ, List, length, sym, ap, ◌∙◌, subst, arith, some, get_elem?, AreDrained, Incoming, Outgoing, ends_of, first_fault}
 use Rattle.gts_circuits.proofs.service.serving.finish.Goals as goal
 
 pub close_all-end-requires-clause-open : goal.close_all-end-requires-clause-open

@@ -1,5 +1,4 @@
-use Rattle.std.proofs.Common.{List, length, map, Option, refl, sym, ap, ◌∙◌, subst, arith}
-use Rattle.gts_circuits.specs.Cited.{Entry, IsServed, Known, Served, Stands, all_of, entries, lines_seen, outgoing_of, place_asked}
+use Rattle.gts_circuits.proofs.Cited.{List, length, map, Option, refl, sym, ap, ◌∙◌, subst, arith, Entry, IsServed, Known, Served, Stands, all_of, entries, lines_seen, outgoing_of, place_asked}
 use Rattle.gts_circuits.proofs.DrainLemmas.{none_drained}
 use Rattle.gts_circuits.proofs.ServeEndedLemmas.{are_ended}
 use Rattle.gts_circuits.proofs.ServedLemmas.{stops, served}

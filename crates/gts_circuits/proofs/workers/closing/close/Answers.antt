@@ -1,5 +1,4 @@
-use Rattle.std.proofs.Common.{◌≡◌, ◌*◌, ◌≤◌, ℕ, List, [], length, true, sym, ◌∙◌, subst}
-use Rattle.gts_circuits.specs.Cited.{Entry, Known, LinesStand, MOST_TURNS, NamesAreUpTo, Stands, entries, entries_under, flat}
+use Rattle.gts_circuits.proofs.Cited.{◌≡◌, ◌*◌, ◌≤◌, ℕ, List, [], length, true, sym, ◌∙◌, subst, Entry, Known, LinesStand, MOST_TURNS, NamesAreUpTo, Stands, entries, entries_under, flat}
 use Rattle.gts_circuits.proofs.HousedLawLemmas.{entries_flat}
 use Rattle.gts_circuits.proofs.EndedLemmas.{lines_stand, names_are}
 use Rattle.gts_circuits.proofs.workers.closing.close.Goals as goal

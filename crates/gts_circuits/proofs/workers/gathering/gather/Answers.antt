@@ -1,10 +1,7 @@
-use Rattle.std.proofs.Common.{rules, ◌≡◌, ℕ, ◌+◌, ◌∷◌, ◌++◌, [], List, length, length-append, append_assoc, sym, ap, ◌∙◌, subst, Some}
-use Rattle.gts_circuits.specs.Cited.{AreGathered, Entry, Known, Line, StartsWith, TableId, after_join}
+use Rattle.gts_circuits.proofs.Cited.{rules, ◌≡◌, ℕ, ◌+◌, ◌∷◌, ◌++◌, [], List, length, length-append, append_assoc, sym, ap, ◌∙◌, subst, Some, AreGathered, Entry, Known, Line, StartsWith, TableId, after_join, common_steps, arith}
 use Rattle.gts_circuits.proofs.PlacesLemmas.{in_middle, nothing_left}
 use Rattle.gts_circuits.proofs.GatheredLemmas.{one_gathered}
 use Rattle.gts_circuits.proofs.workers.gathering.gather.Goals as goal
-use Rattle.std.proofs.lemmas.Grind.{common_steps}
-use Rattle.std.proofs.Common.{arith}
 
 pub join-first-requires-clause-hall : goal.join-first-requires-clause-hall
 join-first-requires-clause-hall g c =

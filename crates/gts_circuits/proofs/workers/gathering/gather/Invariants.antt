@@ -1,4 +1,4 @@
-use Rattle.std.proofs.Common.{◌≡◌, ◌≤◌, ◌++◌, length, vec_capacity, Some}
+use Rattle.gts_circuits.proofs.Cited.{◌≡◌, ◌≤◌, ◌++◌, length, vec_capacity, Some}
 use Rattle.gts_circuits.specs.Gathering.{AreGathered}
 use Rattle.gts_circuits.proofs.workers.gathering.gather.Given as goal
 

@@ -1,10 +1,7 @@
-use Rattle.std.proofs.Common.{rules, ◌≡◌, ◌*◌, List, length, sym, ap, ◌∙◌, arith}
-use lib.ListN.{get_elem?}
-use Rattle.gts_circuits.specs.Cited.{Known, Work}
+use Rattle.gts_circuits.proofs.Cited.{rules, ◌≡◌, ◌*◌, List, length, sym, ap, ◌∙◌, arith, get_elem?, Known, Work, common_steps}
 use Rattle.gts_circuits.proofs.StaffLemmas.{count_receivers, count_senders, count_works, each_worker, at_their_ends}
 use Rattle.gts_circuits.proofs.EndedLemmas.{have_ended, are_joined}
 use Rattle.gts_circuits.proofs.workers.running.run_all.Goals as goal
-use Rattle.std.proofs.lemmas.Grind.{common_steps}
 
 pub line_up-requires : goal.line_up-requires
 line_up-requires g c = grind (arith, common_steps, count_receivers, count_senders)

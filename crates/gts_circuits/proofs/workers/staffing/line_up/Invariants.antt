@@ -1,4 +1,4 @@
-use Rattle.std.proofs.Common.{◌≡◌, ◌+◌, ◌≤◌, ◌++◌, length, vec_capacity}
+use Rattle.gts_circuits.proofs.Cited.{◌≡◌, ◌+◌, ◌≤◌, ◌++◌, length, vec_capacity}
 use Rattle.gts_circuits.proofs.workers.staffing.line_up.Given as goal
 
 -- the senders so far stand behind the receivers

@@ -1,4 +1,4 @@
-use Rattle.std.proofs.Common.{◌≡◌, ◌++◌, length, subst}
+use Rattle.gts_circuits.proofs.Cited.{◌≡◌, ◌++◌, length, subst}
 use Rattle.gts_circuits.proofs.PlacesLemmas.{in_middle}
 use Rattle.gts_circuits.proofs.workers.staffing.staff.Goals as goal
 

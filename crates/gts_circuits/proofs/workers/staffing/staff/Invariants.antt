@@ -1,4 +1,4 @@
-use Rattle.std.proofs.Common.{◌≡◌, ◌*◌, ◌≤◌, ◌++◌, length, vec_capacity}
+use Rattle.gts_circuits.proofs.Cited.{◌≡◌, ◌*◌, ◌≤◌, ◌++◌, length, vec_capacity}
 use Rattle.gts_circuits.specs.Staff.{receivers_of, senders_of}
 use Rattle.gts_circuits.proofs.workers.staffing.staff.Given as goal
 

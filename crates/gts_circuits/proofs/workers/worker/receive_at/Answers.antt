@@ -1,6 +1,5 @@
 use Rattle.gts_circuits.proofs.workers.worker.receive_at.Goals as goal
-use Rattle.std.proofs.lemmas.Grind.{common_steps}
-use Rattle.std.proofs.Common.{arith}
+use Rattle.gts_circuits.proofs.Cited.{common_steps, arith}
 
 pub returns-clause-hall : goal.returns-clause-hall
 returns-clause-hall g c = grind (arith, common_steps)

@@ -1,7 +1,6 @@
 use Rattle.gts_circuits.proofs.WorkingLemmas.{sends-on}
 use Rattle.gts_circuits.proofs.workers.worker.send_at.Goals as goal
-use Rattle.std.proofs.lemmas.Grind.{common_steps}
-use Rattle.std.proofs.Common.{arith}
+use Rattle.gts_circuits.proofs.Cited.{common_steps, arith}
 
 pub returns-clause-hall : goal.returns-clause-hall
 returns-clause-hall g c = grind (arith, common_steps, sends-on)

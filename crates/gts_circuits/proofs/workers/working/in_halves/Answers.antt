@@ -1,5 +1,4 @@
-use Rattle.std.proofs.Common.{rules}
-use Rattle.std.specs.Fork.{ChangesAt}
+use Rattle.gts_circuits.proofs.Cited.{rules, ChangesAt}
 use Rattle.gts_circuits.proofs.HalvesLemmas.{both_parts}
 use Rattle.gts_circuits.proofs.workers.working.in_halves.Goals as goal
 

@@ -1,10 +1,5 @@
-use denote.Param.{param}
-use denote.Param.Send.{param_send, arg_send}
-use denote.Exit.{no}
-use mir.Syntax.{named}
+use Rattle.gts_circuits.proofs.Cited.{param, param_send, arg_send, no, named, arith, common_steps}
 use Rattle.gts_circuits.proofs.CrossingLemmas.{worker_send}
-use Rattle.std.proofs.Common.{arith}
-use Rattle.std.proofs.lemmas.Grind.{common_steps}
 use Rattle.gts_circuits.proofs.workers.working.work_all.Goals as goal
 
 pub in_halves-requires-send-T : goal.in_halves-requires-send-T

@@ -1,8 +1,4 @@
-use Rattle.std.proofs.Common.{◌≡◌, ◌∙◌, ap, sym, subst, List, ℕ}
-use Rattle.std.specs.List.Sorted.{IsNonDecreasing}
-use Rattle.std.proofs.lemmas.List.Sorted.{searched}
-use Rattle.gts_core.specs.Cited.{CircuitNeed, has, holds}
-use Rattle.gts_event.proofs.AmongLemmas.{has_searched}
+use Rattle.gts_core.proofs.Cited.{◌≡◌, ◌∙◌, ap, sym, subst, List, ℕ, IsNonDecreasing, searched, CircuitNeed, has, holds, has_searched}
 use Rattle.gts_core.proofs.holding.Holding.has.Goals as goal
 
 pub returns : goal.returns

@@ -1,6 +1,4 @@
-use Rattle.std.proofs.Common.{rules, ◌≡◌, ◌++◌, List, ℕ}
-use Rattle.std.proofs.lemmas.List.Sorted.{IsNonDecreasingBy-from_sort}
-use Rattle.gts_core.specs.Cited.{CircuitNeed, circuit_need_of}
+use Rattle.gts_core.proofs.Cited.{rules, ◌≡◌, ◌++◌, List, ℕ, IsNonDecreasingBy-from_sort, CircuitNeed, circuit_need_of}
 use Rattle.gts_core.proofs.HoldingLemmas.{sorted_holds}
 use Rattle.gts_core.proofs.holding.Holding.of.Goals as goal
 

@@ -1,11 +1,6 @@
-use Rattle.gts_core.specs.Cited.{Core, HasExtent, Holds, IsExtentOf, IsGathered, Lane, Need, NeedsExtent, core_of}
-use Rattle.std.proofs.Common.{List, length, sym, ap, ◌∙◌, subst, arith}
-use Rattle.std.proofs.lemmas.List.{length-map}
-use Rattle.std.proofs.lemmas.Result.{IfOk-weaker}
-use Rattle.gts_event.specs.declared.extent.NeedExtent.{NeedExtent}
+use Rattle.gts_core.proofs.Cited.{Core, HasExtent, Holds, IsExtentOf, IsGathered, Lane, Need, NeedsExtent, core_of, List, length, sym, ap, ◌∙◌, subst, arith, length-map, IfOk-weaker, NeedExtent, common_steps}
 use Rattle.gts_core.proofs.GatherLemmas.{need_gathered}
 use Rattle.gts_core.proofs.whole.Core.need_extent.Goals as goal
-use Rattle.std.proofs.lemmas.Grind.{common_steps}
 
 pub extent_in-requires-clause-stored : goal.extent_in-requires-clause-stored
 extent_in-requires-clause-stored c = grind (arith, common_steps, length-map)

@@ -1,14 +1,9 @@
-use Rattle.std.proofs.Common.{◌≡◌, ◌<◌, length, false, refl, sym, ap, subst, ◌∙◌, arith}
-use Rattle.std.proofs.lemmas.Bool.{true≢false}
-use Rattle.std.proofs.lemmas.List.{length-map, length-set, get_or_default}
-use Rattle.gts_core.specs.Cited.{AreParts, CanTake, Core, Directory, Holds, IsStep, Lane, Stands, State, StoreAfter, Taken, after, circuit_at, core_of, frame_kept, idle_lane, index_told, lane_in, level_in, need_on, outcome, plan_of, row_plan, with_item}
-use Rattle.gts_event.proofs.LawLemmas.{outcome-same, after-same, spoken-same}
+use Rattle.gts_core.proofs.Cited.{◌≡◌, ◌<◌, length, false, refl, sym, ap, subst, ◌∙◌, arith, true≢false, length-map, length-set, get_or_default, AreParts, CanTake, Core, Directory, Holds, IsStep, Lane, Stands, State, StoreAfter, Taken, after, circuit_at, core_of, frame_kept, idle_lane, index_told, lane_in, level_in, need_on, outcome, plan_of, row_plan, with_item, outcome-same, after-same, spoken-same, common_steps}
 use Rattle.gts_core.proofs.PartsLemmas.{can_take}
 use Rattle.gts_core.proofs.StepLemmas.{holds_by, take_parts}
 use Rattle.gts_core.proofs.SaidLemmas.{frame_held, says_taken}
 use Rattle.gts_core.proofs.whole.Core.take_unseen.Goals.{After-has_what_it_keeps}
 use Rattle.gts_core.proofs.whole.Core.take_unseen.Goals as goal
-use Rattle.std.proofs.lemmas.Grind.{common_steps}
 
 pub take_on-outcome-requires-clause-can : goal.take_on-outcome-requires-clause-can
 take_on-outcome-requires-clause-can c =

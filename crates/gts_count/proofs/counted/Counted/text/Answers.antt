@@ -1,7 +1,6 @@
 use Rattle.gts_count.proofs.CallLemmas.{shows}
 use Rattle.gts_count.proofs.counted.Counted.text.Goals as goal
-use Rattle.std.proofs.lemmas.Grind.{common_steps}
-use Rattle.std.proofs.Common.{arith}
+use Rattle.gts_count.proofs.Cited.{common_steps, arith}
 
 pub returns : goal.returns
 returns g c = grind (arith, common_steps, shows)

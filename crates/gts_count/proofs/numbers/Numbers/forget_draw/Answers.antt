@@ -1,6 +1,4 @@
-use Rattle.std.proofs.Common.{◌≡◌, ◌<◌, [], ◌∷◌, ℕ, List, length, drop, get_or, subst, sym, ◌∙◌, arith}
-use Rattle.gts_count.specs.Cited.{Buffer, IsRing, IsSound, buffer, no_ring, with_item}
-use Rattle.std.proofs.lemmas.List.{get_or_default, length-drop, length-map}
+use Rattle.gts_count.proofs.Cited.{◌≡◌, ◌<◌, [], ◌∷◌, ℕ, List, length, drop, get_or, subst, sym, ◌∙◌, arith, Buffer, IsRing, IsSound, buffer, no_ring, with_item, get_or_default, length-drop, length-map}
 use Rattle.gts_count.proofs.CountLemmas.{leaves_draw}
 use Rattle.gts_count.proofs.SoundLemmas.{first, keys_in, ring_keys, has_draw, oldest_counted, draws_sound}
 use Rattle.gts_count.proofs.numbers.Numbers.forget_draw.Goals as goal

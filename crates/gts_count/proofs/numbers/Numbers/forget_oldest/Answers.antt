@@ -1,8 +1,4 @@
-use Rattle.std.proofs.Common.{◌≡◌, ◌<◌, ◌∷◌, ℕ, ◌-◌, List, length, map, drop, set, get_or, subst, sym, ap, ◌∙◌, arith}
-use Rattle.gts_count.specs.Cited.{All, Buffer, HasCame, IsCount, IsSmall, IsSound, Recent, with_item}
-use Rattle.std.proofs.lemmas.List.{length-set, length-drop}
-use Rattle.std.proofs.lemmas.Grind.{get_or_default_zero}
-use Rattle.std.proofs.lemmas.List.Elements.{All-drop}
+use Rattle.gts_count.proofs.Cited.{◌≡◌, ◌<◌, ◌∷◌, ℕ, ◌-◌, List, length, map, drop, set, get_or, subst, sym, ap, ◌∙◌, arith, All, Buffer, HasCame, IsCount, IsSmall, IsSound, Recent, with_item, length-set, length-drop, get_or_default_zero, All-drop}
 use Rattle.gts_count.proofs.CountLemmas.{leaves, tallied}
 use Rattle.gts_count.proofs.SoundLemmas.{first, first_counted, first_sized, first_came, leaves_came, has_from}
 use Rattle.gts_count.proofs.numbers.Numbers.forget_oldest.Goals as goal

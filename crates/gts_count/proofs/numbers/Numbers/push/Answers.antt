@@ -1,8 +1,4 @@
-use Rattle.std.proofs.Common.{◌≡◌, ◌<◌, ◌++◌, [], ◌∷◌, ℕ, ◌+◌, ◌-◌, List, length, map, set, get_or, subst, sym, ap, ◌∙◌, arith, drop, nat_eq}
-use Rattle.gts_count.specs.Cited.{All, Buffer, IsSmall, IsSound, Recent, Row, buffer, is_of, keep_last, with_item}
-use Rattle.std.proofs.lemmas.List.{length-set, length-append}
-use Rattle.std.proofs.lemmas.Grind.{get_or_default_zero}
-use Rattle.std.proofs.lemmas.List.Elements.{All-append}
+use Rattle.gts_count.proofs.Cited.{◌≡◌, ◌<◌, ◌++◌, [], ◌∷◌, ℕ, ◌+◌, ◌-◌, List, length, map, set, get_or, subst, sym, ap, ◌∙◌, arith, drop, nat_eq, All, Buffer, IsSmall, IsSound, Recent, Row, buffer, is_of, keep_last, with_item, length-set, length-append, get_or_default_zero, All-append}
 use Rattle.gts_count.proofs.CountLemmas.{joins}
 use Rattle.gts_count.proofs.SoundLemmas.{single, joins_came, few_of, size_of}
 use Rattle.gts_count.proofs.numbers.Numbers.push.Goals as goal

@@ -1,10 +1,7 @@
-use Rattle.std.proofs.Common.{◌≡◌, ◌<◌, ◌++◌, [], ◌∷◌, ℕ, ◌+◌, ◌-◌, List, length, drop, get_or, subst, sym, ap, ◌∙◌, arith}
-use Rattle.gts_count.specs.Cited.{Buffer, IsRing, IsSound, buffer, keep_last, no_ring, with_item}
-use Rattle.std.proofs.lemmas.List.{get_or_default, length-append, length-map}
+use Rattle.gts_count.proofs.Cited.{◌≡◌, ◌<◌, ◌++◌, [], ◌∷◌, ℕ, ◌+◌, ◌-◌, List, length, drop, get_or, subst, sym, ap, ◌∙◌, arith, Buffer, IsRing, IsSound, buffer, keep_last, no_ring, with_item, get_or_default, length-append, length-map, common_steps}
 use Rattle.gts_count.proofs.CountLemmas.{joins_draw}
 use Rattle.gts_count.proofs.SoundLemmas.{keys_in, ring_keys, few_draws, draws_sound}
 use Rattle.gts_count.proofs.numbers.Numbers.push_draw.Goals as goal
-use Rattle.std.proofs.lemmas.Grind.{common_steps}
 
 pub join_draw-requires-clause-few : goal.join_draw-requires-clause-few
 join_draw-requires-clause-few c = grind (arith, common_steps, few_draws)

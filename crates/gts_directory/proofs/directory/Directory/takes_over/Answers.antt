@@ -1,10 +1,6 @@
-use Rattle.std.proofs.Common.{◌≡◌, refl, sym, ◌∙◌, ap}
-use Rattle.std.proofs.lemmas.Option.{none-some}
-use Rattle.gts_directory.specs.Cited.{Directory, directory_of_rows, first_change}
+use Rattle.gts_directory.proofs.Cited.{◌≡◌, refl, sym, ◌∙◌, ap, none-some, Directory, directory_of_rows, first_change, common_steps, arith}
 use Rattle.gts_directory.proofs.TakingOverLemmas.{takes_over_from, none_from}
 use Rattle.gts_directory.proofs.directory.Directory.takes_over.Goals as goal
-use Rattle.std.proofs.lemmas.Grind.{common_steps}
-use Rattle.std.proofs.Common.{arith}
 
 pub returns-in-Some-clause-takes_over : goal.returns-in-Some-clause-takes_over
 returns-in-Some-clause-takes_over c = grind (arith, common_steps, none-some, none_from)

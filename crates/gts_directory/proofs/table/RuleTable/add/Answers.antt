@@ -1,7 +1,6 @@
-use Rattle.std.proofs.Common.{arith}
+use Rattle.gts_directory.proofs.Cited.{arith, common_steps}
 use Rattle.gts_directory.proofs.CellLemmas.{IsTable-add}
 use Rattle.gts_directory.proofs.table.RuleTable.add.Goals as goal
-use Rattle.std.proofs.lemmas.Grind.{common_steps}
 
 pub invariant_of-self-2 : goal.invariant_of-self-2
 invariant_of-self-2 c = grind (arith, common_steps, IsTable-add)

@@ -1,6 +1,4 @@
-use Rattle.std.proofs.Common.{◌*◌, List, drop}
-use Rattle.std.proofs.lemmas.List.{take_rest}
-use Rattle.gts_directory.specs.Cited.{RuleRow, fields_of, matches}
+use Rattle.gts_directory.proofs.Cited.{◌*◌, List, drop, take_rest, RuleRow, fields_of, matches}
 use Rattle.gts_directory.proofs.CellLemmas.{fits_are, joined-more, joined-nowhere, bits_of-below}
 use Rattle.gts_directory.proofs.table.RuleTable.routed.Goals as goal
 use Rattle.gts_directory.proofs.table.RuleTable.routed.Goals.{then-fits-ne0, else-fits-ne0}

@@ -1,5 +1,4 @@
-use Rattle.std.proofs.Common.{◌≡◌, ℕ, ◌*◌, take}
-use Rattle.gts_directory.specs.Cited.{bit, bit_at, fields_of, has_bit}
+use Rattle.gts_directory.proofs.Cited.{◌≡◌, ℕ, ◌*◌, take, bit, bit_at, fields_of, has_bit}
 use Rattle.gts_directory.proofs.table.RuleTable.routed.Given as goal
 
 abbrev pub invariant-loop-number : goal.invariant-loop-number

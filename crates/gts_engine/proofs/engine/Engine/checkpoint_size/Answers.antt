@@ -1,7 +1,4 @@
-use Rattle.std.proofs.Common.{rules, ◌≡◌, Ok, subst}
-use Rattle.std.proofs.lemmas.Result.{IfOk-at_ok}
-use Rattle.gts_engine.specs.Cited.{Engine, Holds, IsSizeAt, State, need}
-use Rattle.gts_core.specs.Cited.{NeedsExtent}
+use Rattle.gts_engine.proofs.Cited.{rules, ◌≡◌, Ok, subst, IfOk-at_ok, Engine, Holds, IsSizeAt, State, need, NeedsExtent}
 use Rattle.gts_engine.proofs.engine.Engine.checkpoint_size.Goals as goal
 
 pub returns-clause-size : goal.returns-clause-size

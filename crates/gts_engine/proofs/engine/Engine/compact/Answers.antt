@@ -1,12 +1,8 @@
-use Rattle.std.proofs.Common.{Option, ap, ◌∙◌}
-use Rattle.gts_engine.specs.Cited.{Device, stopped_after}
+use Rattle.gts_engine.proofs.Cited.{Option, ap, ◌∙◌, Device, stopped_after, err_from_is_err_and, common_steps, arith}
 use Rattle.gts_engine.proofs.CallLemmas.{never_settled, then_stopped, nothing_failed}
-use Rattle.std.proofs.lemmas.Result.{err_from_is_err_and}
 use Rattle.gts_engine.proofs.FirstLemmas.{compacts_settled, compacts_unsettled}
 use Rattle.gts_engine.proofs.AnsweringLemmas.{cause_then, no_device_done}
 use Rattle.gts_engine.proofs.engine.Engine.compact.Goals as goal
-use Rattle.std.proofs.lemmas.Grind.{common_steps}
-use Rattle.std.proofs.Common.{arith}
 
 pub compact_settled-requires : goal.compact_settled-requires
 compact_settled-requires g c = c.settle.ensures.settles.emptied

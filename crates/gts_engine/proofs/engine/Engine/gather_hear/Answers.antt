@@ -1,11 +1,8 @@
-use Rattle.std.proofs.Common.{◌≡◌, ℕ, List, Err, subst}
-use Rattle.gts_engine.specs.Cited.{AnswersFull, Engine, HadRoomFor, HasStationCause, Heard, IsAnswered, SayMode, Station, Stopped, engine_of, meanings_of, outcome, stopped_after}
+use Rattle.gts_engine.proofs.Cited.{◌≡◌, ℕ, List, Err, subst, AnswersFull, Engine, HadRoomFor, HasStationCause, Heard, IsAnswered, SayMode, Station, Stopped, engine_of, meanings_of, outcome, stopped_after, common_steps, arith}
 use Rattle.gts_engine.proofs.SettlingLemmas.{stopped_settles}
 use Rattle.gts_engine.proofs.HearingLemmas.{told_other, not_new_full, never_full, not_told, new_is}
 use Rattle.gts_engine.proofs.AnsweringLemmas.{in_words, stopped_answer}
 use Rattle.gts_engine.proofs.engine.Engine.gather_hear.Goals as goal
-use Rattle.std.proofs.lemmas.Grind.{common_steps}
-use Rattle.std.proofs.Common.{arith}
 
 pub returns-in-Some-clause-called : goal.returns-in-Some-clause-called
 returns-in-Some-clause-called g c =

@@ -1,13 +1,9 @@
-use Rattle.std.proofs.Common.{◌<◌, length, refl, sym, subst, ◌∙◌}
-use Rattle.std.proofs.lemmas.Result.{err_from_is_err_and}
-use Rattle.gts_engine.specs.Cited.{Directory, Station}
+use Rattle.gts_engine.proofs.Cited.{◌<◌, length, refl, sym, subst, ◌∙◌, err_from_is_err_and, Directory, Station, common_steps, arith}
 use Rattle.gts_engine.proofs.RoomingLemmas.{idle_full}
 use Rattle.gts_engine.proofs.RoomGatherLemmas.{gathers_plain, gathers_nothing, gathers_full, gathers_left, gathers_made}
 use Rattle.gts_engine.proofs.AnsweringLemmas.{cause_alike, cause_then, no_device_done, no_device_full}
 use Rattle.gts_engine.proofs.IdleLemmas.{no_device}
 use Rattle.gts_engine.proofs.engine.Engine.gather_hear_with_room.Goals as goal
-use Rattle.std.proofs.lemmas.Grind.{common_steps}
-use Rattle.std.proofs.Common.{arith}
 
 pub returns-in_default-clause-called : goal.returns-in_default-clause-called
 returns-in_default-clause-called g c = λ mode.

@@ -1,5 +1,4 @@
-use Rattle.std.proofs.Common.{◌≡◌, Err, subst}
-use Rattle.gts_engine.specs.Cited.{Engine, HasStationCause, IsAnswered, Lost, SayMode, Station, Stopped, engine_of, meanings_of, stopped_after}
+use Rattle.gts_engine.proofs.Cited.{◌≡◌, Err, subst, Engine, HasStationCause, IsAnswered, Lost, SayMode, Station, Stopped, engine_of, meanings_of, stopped_after}
 use Rattle.gts_engine.proofs.AnsweringLemmas.{in_words, stopped_answer}
 use Rattle.gts_engine.proofs.engine.Engine.gather_lost.Goals as goal
 

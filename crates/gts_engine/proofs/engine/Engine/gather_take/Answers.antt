@@ -1,5 +1,4 @@
-use Rattle.std.proofs.Common.{◌≢◌, IfOk, Err, subst}
-use Rattle.gts_engine.specs.Cited.{Engine, IsAnswered, Nothing, SaysFrame as Says, Stopped, Taken, engine_of, meanings_of}
+use Rattle.gts_engine.proofs.Cited.{◌≢◌, IfOk, Err, subst, Engine, IsAnswered, Nothing, SaysFrame as Says, Stopped, Taken, engine_of, meanings_of}
 use Rattle.gts_engine.proofs.AnsweringLemmas.{in_words, stopped_answer}
 use Rattle.gts_engine.proofs.engine.Engine.gather_take.Goals as goal
 

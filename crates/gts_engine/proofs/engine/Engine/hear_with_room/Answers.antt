@@ -1,6 +1,4 @@
-use Rattle.std.proofs.Common.{◌<◌, length, sym, subst}
-use Rattle.std.proofs.lemmas.Result.{err_from_is_err_and}
-use Rattle.gts_engine.specs.Cited.{Directory, Heard, Station}
+use Rattle.gts_engine.proofs.Cited.{◌<◌, length, sym, subst, err_from_is_err_and, Directory, Heard, Station}
 use Rattle.gts_engine.proofs.FirstLemmas.{heard_settled, heard_unsettled}
 use Rattle.gts_engine.proofs.AnsweringLemmas.{cause_then, no_device_done}
 use Rattle.gts_engine.proofs.engine.Engine.hear_with_room.Goals as goal

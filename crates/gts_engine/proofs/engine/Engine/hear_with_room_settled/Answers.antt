@@ -1,11 +1,8 @@
-use Rattle.std.proofs.Common.{refl, sym, ◌∙◌}
-use Rattle.std.proofs.lemmas.Result.{err_from_is_err_and}
+use Rattle.gts_engine.proofs.Cited.{refl, sym, ◌∙◌, err_from_is_err_and, common_steps, arith}
 use Rattle.gts_engine.proofs.RoomingLemmas.{idle_full, plain, without_memory, full_either, left_off, made}
 use Rattle.gts_engine.proofs.AnsweringLemmas.{cause_alike, cause_then, no_device_done, no_device_full}
 use Rattle.gts_engine.proofs.IdleLemmas.{no_device}
 use Rattle.gts_engine.proofs.engine.Engine.hear_with_room_settled.Goals as goal
-use Rattle.std.proofs.lemmas.Grind.{common_steps}
-use Rattle.std.proofs.Common.{arith}
 
 pub returns-in_default-clause-called : goal.returns-in_default-clause-called
 returns-in_default-clause-called g c = λ mode.

@@ -1,14 +1,10 @@
-use Rattle.std.proofs.Common.{◌≡◌, ◌+◌, Bool, false, List, Ok, Err, refl, sym, ap, subst, ◌∙◌, arith}
-use Rattle.std.proofs.lemmas.Result.{err_from_is_err_and}
-use Rattle.gts_engine.specs.Cited.{Call, Engine, EngineParts, HasFewDraws, IsOpened, IsReopening, IsSound, engine_of, held_pieces, no_records, switch_meanings}
+use Rattle.gts_engine.proofs.Cited.{◌≡◌, ◌+◌, Bool, false, List, Ok, Err, refl, sym, ap, subst, ◌∙◌, arith, err_from_is_err_and, Call, Engine, EngineParts, HasFewDraws, IsOpened, IsReopening, IsSound, engine_of, held_pieces, no_records, switch_meanings, syncs_silent, common_steps}
 use Rattle.gts_engine.proofs.GoingLemmas.{gathering_of, opened_on}
 use Rattle.gts_engine.proofs.StepLemmas.{closed_alone, idle_going}
 use Rattle.gts_engine.proofs.SettlingLemmas.{few_none}
-use Rattle.gts_journal.proofs.LawLemmas.{syncs_silent}
 use Rattle.gts_engine.proofs.ReopenLemmas.{syncing, same_place, same_core, reopen_fault, tried_on}
 use Rattle.gts_engine.proofs.SwitchLemmas.{stopped_reopening, done_reopening, failed_reopening}
 use Rattle.gts_engine.proofs.engine.Engine.reopen_settled.Goals as goal
-use Rattle.std.proofs.lemmas.Grind.{common_steps}
 
 abbrev gathered_of : {P : Type 0} → Engine P → Bool
 gathered_of e = e.gathered

@@ -1,9 +1,7 @@
-use Rattle.std.proofs.Common.{refl}
+use Rattle.gts_engine.proofs.Cited.{refl, common_steps, arith}
 use Rattle.gts_engine.proofs.SettlingLemmas.{stopped_settles, parts_settle}
 use Rattle.gts_engine.proofs.CallLemmas.{if_some, none_some}
 use Rattle.gts_engine.proofs.engine.Engine.settle.Goals as goal
-use Rattle.std.proofs.lemmas.Grind.{common_steps}
-use Rattle.std.proofs.Common.{arith}
 
 pub returns-in-Some-clause-settles : goal.returns-in-Some-clause-settles
 returns-in-Some-clause-settles g c = grind (arith, common_steps, stopped_settles)

@@ -1,10 +1,7 @@
-use Rattle.std.proofs.lemmas.Result.{err_from_is_err_and}
-use Rattle.gts_engine.specs.Cited.{Taken}
+use Rattle.gts_engine.proofs.Cited.{err_from_is_err_and, Taken, common_steps, arith}
 use Rattle.gts_engine.proofs.AnsweringLemmas.{no_device_done}
 use Rattle.gts_engine.proofs.CallLemmas.{fails_first, fails_behind, done_behind, stops_behind, stops_done, cause_behind, cause_done, never_stopped, device_active, of_fault}
 use Rattle.gts_engine.proofs.engine.Engine.take.Goals as goal
-use Rattle.std.proofs.lemmas.Grind.{common_steps}
-use Rattle.std.proofs.Common.{arith}
 
 pub returns-in_err-outcome-clause-called : goal.returns-in_err-outcome-clause-called
 returns-in_err-outcome-clause-called g c =

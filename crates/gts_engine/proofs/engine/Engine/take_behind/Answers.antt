@@ -1,10 +1,7 @@
-use Rattle.std.proofs.Common.{◌≡◌, ◌≢◌, true, [], ◌∷◌, ◌++◌, Ok, ap, subst, IfSome}
-use Rattle.gts_engine.specs.Cited.{AnswersIn, Caller, Engine, EngineParts, Nothing, SaysFrame as Says, Taken, TakesBehind, engine_of, joined}
+use Rattle.gts_engine.proofs.Cited.{◌≡◌, ◌≢◌, true, [], ◌∷◌, ◌++◌, Ok, ap, subst, IfSome, AnswersIn, Caller, Engine, EngineParts, Nothing, SaysFrame as Says, Taken, TakesBehind, engine_of, joined, common_steps, arith}
 use Rattle.gts_engine.proofs.AnsweringLemmas.{still_counts}
 use Rattle.gts_engine.proofs.BehindLemmas.{takes_behind, silent_behind, each_none, both_some}
 use Rattle.gts_engine.proofs.engine.Engine.take_behind.Goals as goal
-use Rattle.std.proofs.lemmas.Grind.{common_steps}
-use Rattle.std.proofs.Common.{arith}
 
 pub returns-clause-called : goal.returns-clause-called
 returns-clause-called g c =

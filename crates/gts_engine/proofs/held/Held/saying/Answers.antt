@@ -1,7 +1,4 @@
-use Rattle.std.proofs.Common.{◌≡◌, ◌+◌, ◌-◌, ◌<◌, ◌≤◌, ℕ, suc, List, [], length, take, drop, Some, sym, ap, subst, ◌∙◌, arith, slice_get}
-use Rattle.gts_engine.specs.Cited.{AreSayings, Saying, Sayings, held_pieces, on, sizes_of, slice_index_or}
-use Rattle.std.proofs.lemmas.List.{get_or-take, length-take-le}
-use Rattle.std.proofs.lemmas.Option.{slice_get-get_or}
+use Rattle.gts_engine.proofs.Cited.{◌≡◌, ◌+◌, ◌-◌, ◌<◌, ◌≤◌, ℕ, suc, List, [], length, take, drop, Some, sym, ap, subst, ◌∙◌, arith, slice_get, AreSayings, Saying, Sayings, held_pieces, on, sizes_of, slice_index_or, get_or-take, length-take-le, slice_get-get_or}
 use Rattle.gts_engine.proofs.HeldLemmas.{piece_at, sizes_next, sizes_within, within_front}
 use Rattle.gts_engine.proofs.held.Held.saying.Goals as goal
 

@@ -1,10 +1,8 @@
-use Rattle.std.proofs.Common.{◌-◌, ◌^◌, ◌++◌, ℕ, List, length, flat_map, ap, sym, ◌∙◌, arith, min}
-use Rattle.std.proofs.lemmas.List.{length-map}
-use Rattle.gts_event.specs.Items.{bulletin_of, circuit_need_of}
-use Rattle.gts_event.specs.State as states
-use Rattle.gts_event.specs.Need as needs
+use Rattle.gts_event.proofs.Cited.{◌-◌, ◌^◌, ◌++◌, ℕ, List, length, flat_map, ap, sym, ◌∙◌, arith, min, length-map, bulletin_of, circuit_need_of}
 use Rattle.gts_event.specs.declared.values.Bulletin.{Bulletin}
 use Rattle.gts_event.specs.declared.values.CircuitNeed.{CircuitNeed}
+use Rattle.gts_event.specs.State as states
+use Rattle.gts_event.specs.Need as needs
 use Rattle.gts_event.proofs.ExtentLemmas.{flat_of}
 use Rattle.gts_event.proofs.extent.NeedExtent.of.Goals as goal
 

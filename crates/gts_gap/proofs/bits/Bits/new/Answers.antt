@@ -1,4 +1,4 @@
-use Rattle.std.proofs.Common.{arith}
+use Rattle.gts_gap.proofs.Cited.{arith}
 use Rattle.gts_gap.proofs.BitsLemmas.{bits-long}
 use Rattle.gts_gap.proofs.bits.Bits.new.Goals as goal
 

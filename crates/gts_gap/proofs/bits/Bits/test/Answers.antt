@@ -1,8 +1,6 @@
-use Rattle.std.proofs.Common.{length, ap, arith}
-use Rattle.std.proofs.lemmas.List.{get_or_read}
+use Rattle.gts_gap.proofs.Cited.{length, ap, arith, get_or_read, common_steps}
 use Rattle.gts_gap.proofs.BitsLemmas.{bits-long, bits-read}
 use Rattle.gts_gap.proofs.bits.Bits.test.Goals as goal
-use Rattle.std.proofs.lemmas.Grind.{common_steps}
 
 pub index-requires : goal.index-requires
 index-requires c = omega (arith, bits-long c.self.inside.words.items, ap length c.self.view_is, c.requires)

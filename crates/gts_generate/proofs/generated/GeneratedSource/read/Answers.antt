@@ -1,5 +1,4 @@
-use Rattle.std.proofs.Common.{◌≡◌, ℕ, ◌-◌, ◌++◌, [], List, length, take, drop, min, sym, ap, ◌∙◌, arith}
-use Rattle.std.proofs.lemmas.List.{take_rest, drop-drop, length-drop}
+use Rattle.gts_generate.proofs.Cited.{◌≡◌, ℕ, ◌-◌, ◌++◌, [], List, length, take, drop, min, sym, ap, ◌∙◌, arith, take_rest, drop-drop, length-drop}
 use Rattle.gts_generate.specs.DayView.{pieces_left}
 use Rattle.gts_generate.proofs.DayLemmas.{reads_on}
 use Rattle.gts_generate.proofs.generated.GeneratedSource.read.Goals as goal

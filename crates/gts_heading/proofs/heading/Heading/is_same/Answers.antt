@@ -1,5 +1,4 @@
-use Rattle.std.proofs.Common.{rules, ◌∙◌}
-use Rattle.std.proofs.lemmas.Bool.Decides.{same_from_decides}
+use Rattle.gts_heading.proofs.Cited.{rules, ◌∙◌, same_from_decides}
 use Rattle.gts_heading.specs.Heading.{HeadingFields, IsHeading, fields_of, is_same_heading}
 use Rattle.gts_heading.proofs.SameLemmas.{have_same_fields, fields_decide, texts_decide}
 use Rattle.gts_heading.proofs.heading.Heading.is_same.Goals as goal

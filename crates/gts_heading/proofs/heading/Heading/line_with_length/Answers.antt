@@ -1,7 +1,6 @@
 use Rattle.gts_heading.proofs.HeadingLemmas.{line_rest}
 use Rattle.gts_heading.proofs.heading.Heading.line_with_length.Goals as goal
-use Rattle.std.proofs.lemmas.Grind.{common_steps}
-use Rattle.std.proofs.Common.{arith}
+use Rattle.gts_heading.proofs.Cited.{common_steps, arith}
 
 -- what the cursor has left is what was not read
 pub overflow_sub-result : goal.overflow_sub-result

@@ -1,6 +1,4 @@
-use Rattle.std.proofs.Common.{append_assoc, arith}
-use Rattle.std.proofs.lemmas.List.{append-nil, length-take-le}
-use Rattle.std.proofs.lemmas.Grind.{common_steps}
+use Rattle.gts_heading.proofs.Cited.{append_assoc, arith, append-nil, length-take-le, common_steps}
 use Rattle.gts_heading.specs.Heading.{heading_text}
 use Rattle.gts_heading.proofs.heading.Heading.write.Goals as goal
 

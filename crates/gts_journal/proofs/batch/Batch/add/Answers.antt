@@ -1,8 +1,4 @@
-use Rattle.std.proofs.Common.{◌≡◌, ◌+◌, ◌-◌, ◌≤◌, ℕ, List, [], ◌∷◌, ◌++◌, length, take, sym, ap, ◌∙◌, subst, arith}
-use Rattle.std.proofs.Math.ListN.{set}
-use Rattle.std.proofs.lemmas.List.{with_items_is, length-take-le}
-use Rattle.gts_journal.specs.Cited.{Gathered, Gathers, chain_text, closed_gate, held, open_gate, record_of, record_text, sealed, texts_of}
-use Rattle.gts_record.proofs.LawLemmas.{length-sealed}
+use Rattle.gts_journal.proofs.Cited.{◌≡◌, ◌+◌, ◌-◌, ◌≤◌, ℕ, List, [], ◌∷◌, ◌++◌, length, take, sym, ap, ◌∙◌, subst, arith, set, with_items_is, length-take-le, Gathered, Gathers, chain_text, closed_gate, held, open_gate, record_of, record_text, sealed, texts_of, length-sealed}
 use Rattle.gts_journal.specs.contracts.batch.Batch.{the_view}
 use Rattle.gts_journal.proofs.BatchLemmas.{gathers_more, put_long, put_more}
 use Rattle.gts_journal.proofs.batch.Batch.add.Goals as goal

@@ -1,4 +1,4 @@
-use Rattle.std.proofs.Common.{rules, ◌∙◌, ap, arith}
+use Rattle.gts_lock.proofs.Cited.{rules, ◌∙◌, ap, arith}
 use Rattle.gts_lock.proofs.StepsLemmas.{looks}
 use Rattle.gts_lock.proofs.hall.Hall.await_turn.Goals as goal
 

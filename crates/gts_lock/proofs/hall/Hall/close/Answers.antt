@@ -1,10 +1,9 @@
-use Rattle.std.proofs.Common.{◌≡◌, ◌≤◌, ◌∙◌, ap, sym, subst, arith, length, true}
-use Rattle.gts_lock.specs.Cited.{Accounts, AllJoined, MOST_TURNS, NamesAreJoined, entries}
+use Rattle.gts_lock.proofs.Cited.{◌≡◌, ◌≤◌, ◌∙◌, ap, sym, subst, arith, length, true, Accounts, MOST_TURNS, NamesAreJoined, entries, common_steps}
+use Rattle.gts_lock.specs.Cited.{AllJoined}
 use Rattle.gts_lock.proofs.PartingLemmas.{copies}
 use Rattle.gts_lock.proofs.ClosingLemmas.{closes_as, closing_told, closing_full}
 use Rattle.gts_lock.proofs.ViewsLemmas.{resting_idle}
 use Rattle.gts_lock.proofs.hall.Hall.close.Goals as goal
-use Rattle.std.proofs.lemmas.Grind.{common_steps}
 
 pub split_seat-copy-requires : goal.split_seat-copy-requires
 split_seat-copy-requires g c = grind (arith, common_steps, copies)

@@ -1,4 +1,4 @@
-use Rattle.std.proofs.Common.{◌≡◌, ◌<◌}
+use Rattle.gts_lock.proofs.Cited.{◌≡◌, ◌<◌}
 use Rattle.gts_lock.specs.declared.limits.TheConstants.{MOST_TURNS}
 use Rattle.gts_lock.proofs.hall.Hall.draw.Given as goal
 

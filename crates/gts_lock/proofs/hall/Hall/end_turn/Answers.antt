@@ -1,5 +1,4 @@
-use Rattle.std.proofs.Common.{rules, ◌∙◌, ap, sym, subst, arith, ◌∷◌, ◌++◌, Some}
-use Rattle.gts_lock.specs.Cited.{entries, rest}
+use Rattle.gts_lock.proofs.Cited.{rules, ◌∙◌, ap, sym, subst, arith, ◌∷◌, ◌++◌, Some, entries, rest}
 use Rattle.gts_lock.proofs.StepsLemmas.{raises}
 use Rattle.gts_lock.proofs.hall.Hall.end_turn.Goals as goal
 

@@ -1,4 +1,4 @@
-use Rattle.std.proofs.Common.{rules, ◌∙◌, ap, sym, ◌∷◌, Some}
+use Rattle.gts_lock.proofs.Cited.{rules, ◌∙◌, ap, sym, ◌∷◌, Some}
 use Rattle.atomic_table.specs.Table.{rest}
 use Rattle.gts_lock.proofs.hall.Hall.enter.Goals as goal
 

@@ -1,4 +1,4 @@
-use Rattle.std.proofs.Common.{rules, ◌∙◌, ap, subst, arith}
+use Rattle.gts_lock.proofs.Cited.{rules, ◌∙◌, ap, subst, arith}
 use Rattle.gts_lock.specs.History.{StartsWith}
 use Rattle.gts_lock.proofs.PartingLemmas.{joins, seen_by_both}
 use Rattle.gts_lock.proofs.StepsLemmas.{compares}

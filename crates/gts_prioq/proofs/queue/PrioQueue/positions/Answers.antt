@@ -1,9 +1,6 @@
-use Rattle.std.proofs.Common.{◌≡◌, ℕ, List, [], ◌∷◌, ◌++◌, Global, flat_map, map, refl, ap}
-use Rattle.std.proofs.lemmas.Result.{IfOk-weaker}
-use Rattle.gts_prioq.specs.Cited.{VecDeque, items_of}
+use Rattle.gts_prioq.proofs.Cited.{◌≡◌, ℕ, List, [], ◌∷◌, ◌++◌, flat_map, map, refl, ap, IfOk-weaker, VecDeque, items_of, common_steps, arith}
+use Rattle.std.proofs.Common.{Global}
 use Rattle.gts_prioq.proofs.queue.PrioQueue.positions.Goals as goal
-use Rattle.std.proofs.lemmas.Grind.{common_steps}
-use Rattle.std.proofs.Common.{arith}
 
 flat_levels : (queues : List (VecDeque ℕ Global)) → flat_map items_of queues ≡ flat_map (λ (level : List ℕ). level) (map items_of queues)
 flat_levels [] = refl

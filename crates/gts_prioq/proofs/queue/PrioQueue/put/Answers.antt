@@ -1,8 +1,6 @@
-use Rattle.std.proofs.Common.{arith}
-use Rattle.std.proofs.lemmas.List.{length-set}
+use Rattle.gts_prioq.proofs.Cited.{arith, length-set, common_steps}
 use Rattle.gts_prioq.proofs.WaitingLemmas.{at-set, at-here, at-set_other, count_of-set}
 use Rattle.gts_prioq.proofs.queue.PrioQueue.put.Goals as goal
-use Rattle.std.proofs.lemmas.Grind.{common_steps}
 
 pub push_back_reserved-requires : goal.push_back_reserved-requires
 push_back_reserved-requires c = grind (arith, common_steps, at-here)

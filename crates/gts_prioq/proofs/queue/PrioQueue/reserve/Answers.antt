@@ -1,9 +1,6 @@
-use Rattle.std.proofs.Common.{◌≡◌, ◌+◌, ◌-◌, ◌<◌, ◌≤◌, length, get_or, ap, arith}
-use Rattle.std.proofs.lemmas.List.{length-set}
-use Rattle.gts_prioq.specs.Cited.{Waiting, room_of, spare}
+use Rattle.gts_prioq.proofs.Cited.{◌≡◌, ◌+◌, ◌-◌, ◌<◌, ◌≤◌, length, get_or, ap, arith, length-set, Waiting, room_of, spare, common_steps}
 use Rattle.gts_prioq.proofs.WaitingLemmas.{at-set, levels-set_kept, spare-set, count_of-set}
 use Rattle.gts_prioq.proofs.queue.PrioQueue.reserve.Goals as goal
-use Rattle.std.proofs.lemmas.Grind.{common_steps}
 
 pub returns-in_err-reserve-clause-unchanged : goal.returns-in_err-reserve-clause-unchanged
 returns-in_err-reserve-clause-unchanged c = grind (arith, common_steps, levels-set_kept)

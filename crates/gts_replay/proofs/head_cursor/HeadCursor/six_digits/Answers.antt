@@ -1,11 +1,7 @@
-use Rattle.std.proofs.Common.{◌≡◌, ℕ, suc, ◌+◌, ◌-◌, ◌*◌, List, Ok, Err, ap, ◌∙◌, arith}
-use Rattle.std.proofs.Math.Nat.{pow-le-pow_right}
-use Rattle.std.proofs.lemmas.Grind.{pow_more}
-use Rattle.std.proofs.lemmas.Result.{err_from_is_err_and}
+use Rattle.gts_replay.proofs.Cited.{◌≡◌, ℕ, suc, ◌+◌, ◌-◌, ◌*◌, List, Ok, Err, ap, ◌∙◌, arith, pow-le-pow_right, pow_more, err_from_is_err_and, digits_at, common_steps}
 use Rattle.gts_replay.specs.declared.head_cursor.Stop.{Stop}
-use Rattle.gts_replay.specs.HeadReading.{digit_at, digits_at}
+use Rattle.gts_replay.specs.HeadReading.{digit_at}
 use Rattle.gts_replay.proofs.head_cursor.HeadCursor.six_digits.Goals as goal
-use Rattle.std.proofs.lemmas.Grind.{common_steps}
 
 -- five digits leave room for a sixth
 pub overflow_mul-number : goal.overflow_mul-number

@@ -1,5 +1,4 @@
-use Rattle.std.proofs.Common.{◌≡◌, ◌-◌, ◌<◌, ◌^◌}
-use Rattle.gts_replay.specs.HeadReading.{digits_at}
+use Rattle.gts_replay.proofs.Cited.{◌≡◌, ◌-◌, ◌<◌, ◌^◌, digits_at}
 use Rattle.gts_replay.proofs.head_cursor.HeadCursor.six_digits.Given as goal
 
 -- the digits that are left, behind those of the number so far

@@ -1,9 +1,6 @@
-use Rattle.std.proofs.Common.{arith}
-use Rattle.std.proofs.lemmas.List.{length-take-le, length-drop}
-use Rattle.std.proofs.lemmas.Result.{err_from_is_err_and}
+use Rattle.gts_replay.proofs.Cited.{arith, length-take-le, length-drop, err_from_is_err_and, common_steps}
 use Rattle.gts_replay.proofs.HeldLemmas.{behind_first}
 use Rattle.gts_replay.proofs.steps.Steps.held_head.Goals as goal
-use Rattle.std.proofs.lemmas.Grind.{common_steps}
 
 pub returns-in_err-head-clause-stop : goal.returns-in_err-head-clause-stop
 returns-in_err-head-clause-stop c =

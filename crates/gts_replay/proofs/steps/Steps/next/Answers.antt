@@ -1,5 +1,4 @@
-use Rattle.std.proofs.Common.{◌≡◌, ℕ, ◌+◌, ◌-◌, ◌≤◌, ◌++◌, [], List, length, ap, subst, ◌∙◌, arith}
-use Rattle.gts_replay.specs.Cited.{Held, IsStop, LONGEST_CAPTURE, readable_from}
+use Rattle.gts_replay.proofs.Cited.{◌≡◌, ℕ, ◌+◌, ◌-◌, ◌≤◌, ◌++◌, [], List, length, ap, subst, ◌∙◌, arith, Held, IsStop, LONGEST_CAPTURE, readable_from}
 use Rattle.gts_replay.proofs.HeldLemmas.{part_is_short, stop_is_bad, end_is_bad, bad_since, same_readable}
 use Rattle.gts_replay.proofs.steps.Steps.next.Goals as goal
 

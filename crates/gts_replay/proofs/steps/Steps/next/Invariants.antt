@@ -1,4 +1,4 @@
-use Rattle.std.proofs.Common.{◌≡◌, ◌-◌, ◌++◌, length}
+use Rattle.gts_replay.proofs.Cited.{◌≡◌, ◌-◌, ◌++◌, length}
 use Rattle.gts_replay.proofs.steps.Steps.next.Given as goal
 
 -- What is left is the same, however much of it was read ahead; nothing else changed.

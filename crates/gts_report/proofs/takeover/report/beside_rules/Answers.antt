@@ -1,5 +1,4 @@
-use Rattle.std.proofs.Common.{◌≡◌, ℕ, ◌-◌, List, [], ◌∷◌, ◌++◌, length, codes, ap, ◌∙◌}
-use Rattle.gts_report.specs.Cited.{all_circuit_lines, behind, duplicates_line, known, need_of, refusal, refused_line}
+use Rattle.gts_report.proofs.Cited.{◌≡◌, ℕ, ◌-◌, List, [], ◌∷◌, ◌++◌, length, codes, ap, ◌∙◌, all_circuit_lines, behind, duplicates_line, known, need_of, refusal, refused_line}
 use Rattle.gts_report.proofs.takeover.report.beside_rules.Goals as goal
 
 pub returns : goal.returns

@@ -1,5 +1,4 @@
-use Rattle.std.proofs.Common.{◌≡◌, ℕ, List, ◌++◌, Ok, subst, ap, ◌∙◌}
-use Rattle.gts_report.specs.Cited.{Directory, changes, files_open_any, need, need_of, seen}
+use Rattle.gts_report.proofs.Cited.{◌≡◌, ℕ, List, ◌++◌, Ok, subst, ap, ◌∙◌, Directory, changes, files_open_any, need, need_of, seen}
 use Rattle.gts_report.proofs.takeover.report.changes.Goals as goal
 
 pub returns-clause-report : goal.returns-clause-report

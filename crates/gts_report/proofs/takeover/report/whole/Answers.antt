@@ -1,5 +1,4 @@
-use Rattle.std.proofs.Common.{ℕ, List, ◌++◌, ap, ◌∙◌}
-use Rattle.gts_report.specs.Cited.{Directory, beside_rules, both_rule_lines, need_of}
+use Rattle.gts_report.proofs.Cited.{ℕ, List, ◌++◌, ap, ◌∙◌, Directory, beside_rules, both_rule_lines, need_of}
 use Rattle.gts_report.proofs.takeover.report.whole.Goals as goal
 
 pub returns : goal.returns

@@ -1,4 +1,4 @@
-use Rattle.std.proofs.Common.{◌≡◌, ℕ, cond, List, ◌+◌, ◌-◌, length}
+use Rattle.gts_standby.proofs.Cited.{◌≡◌, ℕ, cond, List, ◌+◌, ◌-◌, length}
 use Rattle.gts_standby.specs.Reading.{HasRead}
 use Rattle.gts_standby.proofs.ahead.Ahead.fill.Given as goal
 

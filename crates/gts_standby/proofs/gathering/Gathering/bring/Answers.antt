@@ -1,9 +1,7 @@
-use Rattle.std.proofs.Common.{sym, ◌∙◌, refl, arith}
-use Rattle.std.proofs.lemmas.Bool.{eqb-true, eqb-false}
+use Rattle.gts_standby.proofs.Cited.{sym, ◌∙◌, refl, arith, eqb-true, eqb-false, common_steps}
 use Rattle.gts_standby.proofs.ReadLemmas.{batch_reads}
 use Rattle.gts_standby.proofs.GatherLemmas.{block_by, brings_none, brings_all, still_brings}
 use Rattle.gts_standby.proofs.gathering.Gathering.bring.Goals as goal
-use Rattle.std.proofs.lemmas.Grind.{common_steps}
 
 pub returns-then-is_empty-clause-brought : goal.returns-then-is_empty-clause-brought
 returns-then-is_empty-clause-brought g c = λ s rs h.

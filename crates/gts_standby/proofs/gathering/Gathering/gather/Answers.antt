@@ -1,6 +1,5 @@
-use Rattle.std.proofs.Common.{◌≡◌, ℕ, List, ◌+◌, ◌-◌, ◌≤◌, Bool, true, false, Option, Some, None, Ok, length, drop, refl, sym, ap, subst, ◌∙◌, arith}
+use Rattle.gts_standby.proofs.Cited.{◌≡◌, ℕ, List, ◌+◌, ◌-◌, ◌≤◌, Bool, true, false, Option, Some, None, Ok, length, drop, refl, sym, ap, subst, ◌∙◌, arith, HasRead, InFeed, IsJudged, IsUnsealed, IsWhole, Version, admits, gate_behind, held, record_of, record_size, seal, seal_size, sealed_at, written}
 use Rattle.gts_record.specs.Record as texts
-use Rattle.gts_standby.specs.Cited.{HasRead, InFeed, IsJudged, IsUnsealed, IsWhole, Version, admits, gate_behind, held, record_of, record_size, seal, seal_size, sealed_at, written}
 use Rattle.gts_standby.proofs.HeaderLemmas.{passed}
 use Rattle.gts_standby.proofs.FedLemmas.{sealed_read, none_read, ends_there, found_fits_there}
 use Rattle.gts_standby.proofs.AddLemmas.{next_refused, next_none}

@@ -1,5 +1,4 @@
-use Rattle.std.proofs.Common.{◌≡◌, true, false, sym, ◌∙◌}
-use Rattle.gts_circuits.specs.Cited.{Caller, Heard, SaysNoMore}
+use Rattle.gts_circuits.proofs.Cited.{◌≡◌, true, false, sym, ◌∙◌, Caller, Heard, SaysNoMore}
 use Rattle.gts_circuits.proofs.StandingLemmas.{adds, adds_with_room}
 use Rattle.gts_circuits.proofs.hall.housed.Housed.hear.Goals as goal
 

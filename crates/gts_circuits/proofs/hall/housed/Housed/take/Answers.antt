@@ -1,8 +1,6 @@
-use Rattle.gts_circuits.specs.Cited.{LeavesFrame, Taken}
+use Rattle.gts_circuits.proofs.Cited.{LeavesFrame, Taken, common_steps, arith}
 use Rattle.gts_circuits.proofs.StandingLemmas.{take_takes_none, takes_accept_nothing, adds, leaves}
 use Rattle.gts_circuits.proofs.hall.housed.Housed.take.Goals as goal
-use Rattle.std.proofs.lemmas.Grind.{common_steps}
-use Rattle.std.proofs.Common.{arith}
 
 pub returns-clause-adds : goal.returns-clause-adds
 returns-clause-adds g c = λ entries stands.

@@ -1,6 +1,4 @@
-use Rattle.std.proofs.Common.{◌≡◌, true, false, refl, sym, ◌∙◌}
-use Rattle.gts_circuits.specs.Cited.{Caller, Heard}
-use Rattle.gts_calls.proofs.HeardLemmas.{as_heard}
+use Rattle.gts_circuits.proofs.Cited.{◌≡◌, true, false, refl, sym, ◌∙◌, Caller, Heard, as_heard}
 use Rattle.gts_circuits.proofs.GatheringLemmas.{answered, heard_with_room, M}
 use Rattle.gts_circuits.proofs.hall.housed.HousedListens.listen.Goals as goal
 

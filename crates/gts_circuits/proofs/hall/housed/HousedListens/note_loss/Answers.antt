@@ -1,4 +1,4 @@
-use Rattle.std.proofs.Common.{refl}
+use Rattle.gts_circuits.proofs.Cited.{refl}
 use Rattle.gts_event.specs.declared.event.Event.TheVariants.{Lost}
 use Rattle.gts_engine.specs.declared.mode.SayMode.TheVariants.{Caller}
 use Rattle.gts_circuits.proofs.GatheringLemmas.{answered}
