@@ -285,6 +285,10 @@ class Switch:
         """The highest descriptor that the process has open now."""
         return max(map(int, os.listdir(f'/proc/{self.process.pid}/fd')))
 
+    def threads(self):
+        """How many threads the process has now."""
+        return len(os.listdir(f'/proc/{self.process.pid}/task'))
+
     def memory(self):
         """How many kibibytes of memory the process has in use now."""
         with open(f'/proc/{self.process.pid}/status') as file:
