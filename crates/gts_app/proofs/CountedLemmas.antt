@@ -22,10 +22,7 @@ module _ {O T W : Type 0} (parts : W → CountedParts T) (meanings : Standing O 
       → BreaksOff meanings (origin_at meanings o h steps (parts old).switch) (length h) h (entries_at meanings (parts old).switch o h steps) fault (parts new).switch
   breaks_off steps DiskFault b = together steps (λ events. Doubt events ∷ []) b
   breaks_off steps SayFault b = together steps all_unsaid b
-  breaks_off steps (Full used need limit) b = idle steps (Full used need limit) b
-  breaks_off steps (Stopped by) b = idle steps (Stopped by) b
-  breaks_off steps Spent b = idle steps Spent b
-  breaks_off steps NoMemory b = idle steps NoMemory b
+  breaks_off steps other b = idle steps other b
 
   breaks_restart : (steps : List Step) (fault : OpenFault)
       → BreaksAtRestart (meanings_by parts meanings) station (origin_at (meanings_by parts meanings) o h steps old) h (entries_at (meanings_by parts meanings) old o h steps) fault new

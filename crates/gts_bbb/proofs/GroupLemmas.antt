@@ -24,7 +24,4 @@ pub is_some-kind_of : (three : List ℕ) → is_some (kind_of three) ≡ is_bbb 
 is_some-kind_of (a ∷ b ∷ c ∷ []) =
     some_passes (is_ascii_uppercase c) (eqb a 82 && eqb b 82) (eqb a 67 && eqb b 67) (eqb a 65 && eqb b 65) (eqb a 80 && eqb b 90) (eqb a 80 && is_ascii_uppercase b)
     (Delayed c) (Correction c) (Amendment c) (LastSegment c) (Segment (26 * (b - 65) + (c - 65))) (last_is_capital a b)
-is_some-kind_of [] = refl
-is_some-kind_of (a ∷ []) = refl
-is_some-kind_of (a ∷ b ∷ []) = refl
-is_some-kind_of (a ∷ b ∷ c ∷ d ∷ more) = refl
+is_some-kind_of _ = refl

@@ -36,10 +36,9 @@ module _ {O W : Type 0} (meanings : Standing O W) where
       → BreaksFed meanings o first h c (xs ++ ys) f now
   breaks_behind o first h c xs ys DiskFault now b = together_behind o first h xs ys (λ es. Doubt es ∷ []) now b
   breaks_behind o first h c xs ys SayFault now b = together_behind o first h xs ys all_unsaid now b
-  breaks_behind o first h c xs ys (Full used need limit) now b = (b.0, last_behind o h xs ys (event.Lost c b.0) (Full used need limit) now b.1)
   breaks_behind o first h c xs ys (Stopped by) now b = (b.0, last_behind o h xs ys b.0 (Stopped by) now b.1)
   breaks_behind o first h c xs ys Spent now b = b
-  breaks_behind o first h c xs ys NoMemory now b = (b.0, last_behind o h xs ys (event.Lost c b.0) NoMemory now b.1)
+  breaks_behind o first h c xs ys other now b = (b.0, last_behind o h xs ys (event.Lost c b.0) other now b.1)
 
   stands_behind : (o : O) (first : ℕ) (h : List Entry) (xs ys : List Event) (now : W) → Stands meanings o first ((h ++ all_done xs) ++ all_done ys) now → Stands meanings o first (h ++ all_done (xs ++ ys)) now
   stands_behind o first h xs ys now s =
@@ -74,10 +73,9 @@ module _ {O W : Type 0} (meanings : Standing O W) where
   breaks_of : (o : O) (first : ℕ) (h : List Entry) (c : ℕ) (events : List Event) (f : SwitchFault) (now : W) → BreaksFed meanings o first h c events f now → BreaksOff meanings (λ _. o) first h (all_done events) f now
   breaks_of o first h c events DiskFault now b = b.0
   breaks_of o first h c events SayFault now b = b.0
-  breaks_of o first h c events (Full used need limit) now b = idle_of o h events (event.Lost c b.0) (Full used need limit) now b.1
   breaks_of o first h c events (Stopped by) now b = idle_of o h events b.0 (Stopped by) now b.1
   breaks_of o first h c events Spent now b = absurd b
-  breaks_of o first h c events NoMemory now b = idle_of o h events (event.Lost c b.0) NoMemory now b.1
+  breaks_of o first h c events other now b = idle_of o h events (event.Lost c b.0) other now b.1
 
   -- what became of a feed, where no more is asked than that
   pub goes_of : (o : O) (first : ℕ) (h : List Entry) (c : ℕ) (events : List Event) (message : List ℕ) (end : FeedEnd) (now : W) → GoesFed meanings o first h c events message end now

@@ -195,10 +195,8 @@ module _ {O W : Type 0} (meanings : Standing O W) where
           → BreaksOff meanings (λ _. o) first h (Done event ∷ []) f new
       go DiskFault doubt cause = in_doubt o first h (Done event ∷ []) old new s doubt
       go SayFault short cause = said short
-      go (Full used need limit) left cause = idle (Full used need limit) left cause
-      go (Stopped by) left cause = idle (Stopped by) left cause
       go Spent none cause = absurd none
-      go NoMemory left cause = idle NoMemory left cause
+      go other left cause = idle other left cause
 
   pub one_breaks : (event : Event) (result : Result Outcome SwitchFault) (fault : SwitchFault) (r : Result (Unit {0}) SwitchFault) (old new : W)
       → IsAnswered meanings event result old new → result ≡ Err fault → IsErrAnd r (λ e. e ≡ fault)
@@ -236,10 +234,7 @@ module _ {O W : Type 0} (meanings : Standing O W) where
       go : (f : SwitchFault) → BreaksOff meanings (λ _. o) first (h ++ xs) ys f now → BreaksOff meanings (λ _. o) first h (xs ++ ys) f now
       go DiskFault t = both (λ events. Doubt events ∷ []) t
       go SayFault t = both all_unsaid t
-      go (Full used need limit) t = idle (Full used need limit) t
-      go (Stopped by) t = idle (Stopped by) t
-      go Spent t = idle Spent t
-      go NoMemory t = idle NoMemory t
+      go other t = idle other t
 
   pub then_goes : (o : O) (first : ℕ) (h xs ys : List Entry) (r : Result (Unit {0}) SwitchFault) (now : W)
       → Goes meanings o first (h ++ xs) ys r now → Goes meanings o first h (xs ++ ys) r now
@@ -278,10 +273,7 @@ module _ {O W : Type 0} (meanings : Standing O W) where
       go : (f : SwitchFault) → BreaksOff meanings (λ _. o) first h xs f now → BreaksOff meanings (λ _. o) first h (xs ++ ys) f now
       go DiskFault t = both (λ events. Doubt events ∷ []) t
       go SayFault t = both all_unsaid t
-      go (Full used need limit) t = idle (Full used need limit) t
-      go (Stopped by) t = idle (Stopped by) t
-      go Spent t = idle Spent t
-      go NoMemory t = idle NoMemory t
+      go other t = idle other t
 
   -- the same over equal entries
   pub goes_same : (o : O) (first : ℕ) (h xs ys : List Entry) (r : Result (Unit {0}) SwitchFault) (now : W)

@@ -23,10 +23,8 @@ module _ {O W : Type 0} (meanings : Standing O W) where
   abbrev OneBreaks : O → ℕ → List Entry → Event → SwitchFault → W → Type 0
   OneBreaks o first h e DiskFault new = BreaksSoon meanings o first h (e ∷ []) (λ es. Doubt es ∷ []) new
   OneBreaks o first h e SayFault new = BreaksSoon meanings o first h (e ∷ []) all_unsaid new
-  OneBreaks o first h e (Full used need limit) new = BreaksLast meanings o h (e ∷ []) e (Full used need limit) new
-  OneBreaks o first h e (Stopped by) new = BreaksLast meanings o h (e ∷ []) e (Stopped by) new
   OneBreaks o first h e Spent new = ⊥
-  OneBreaks o first h e NoMemory new = BreaksLast meanings o h (e ∷ []) e NoMemory new
+  OneBreaks o first h e other new = BreaksLast meanings o h (e ∷ []) e other new
 
   module _ (e : Event) (result : Result Outcome SwitchFault) (old new : W) (heard : IsHeard meanings e result old new) (o : O) (first : ℕ) (h : List Entry) (s : Stands meanings o first h old) where
     after : AfterHearing meanings o s.front s.events e result new

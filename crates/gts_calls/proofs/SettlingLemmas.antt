@@ -79,10 +79,9 @@ module _ {O W : Type 0} (meanings : Standing O W) where
       → (more : List Entry) × AddsAtFault c events fault more × settled meanings o (h ++ more) now
   broke_off o h c events DiskFault now b = turned_together o h events (λ es. Doubt es ∷ []) now b
   broke_off o h c events SayFault now b = turned_together o h events all_unsaid now b
-  broke_off o h c events (Full used need limit) now b = let l = left_last o h events (event.Lost c b.0) (Full used need limit) now b.1 in (l.0, (b.0, l.1), l.2)
   broke_off o h c events (Stopped by) now b = let l = left_last o h events b.0 (Stopped by) now b.1 in (l.0, (b.0, l.1), l.2)
   broke_off o h c events Spent now b = absurd b
-  broke_off o h c events NoMemory now b = let l = left_last o h events (event.Lost c b.0) NoMemory now b.1 in (l.0, (b.0, l.1), l.2)
+  broke_off o h c events other now b = let l = left_last o h events (event.Lost c b.0) other now b.1 in (l.0, (b.0, l.1), l.2)
 
   -- what was gathered stands, and then settling failed
   fails : (o : O) (h : List Entry) (c : ℕ) (events : List Event) (fault : SwitchFault) (old new : W) → Stands meanings o (length h) (h ++ all_done events) old → IsSettling meanings (Err fault) old new

@@ -56,8 +56,7 @@ not_there text known bytes x none =
 
 pub head_long : (position from : ℕ) (kind : Kind) (size : ℕ) → length (bulletin_head position from kind size) ≡ 16
 head_long position from An size = refl
-head_long position from Bi size = refl
-head_long position from Fx size = refl
+head_long position from _ size = refl
 
 -- ---- a bulletin's size
 

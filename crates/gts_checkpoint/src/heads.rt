@@ -16,7 +16,9 @@ pub const HEAD: usize = 16;
 /// What a checkpoint lists: bulletins, and circuits behind them.
 #[derive(Clone, Copy)]
 pub enum Listed {
+    /// A bulletin that is needed: its head, and its body.
     Bulletin,
+    /// A circuit: its head, and the positions that wait or are kept there.
     Circuit,
 }
 

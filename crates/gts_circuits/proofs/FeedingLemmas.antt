@@ -25,10 +25,8 @@ module _ {P W : Type 0} (engine : W → Engine P) (makes : W → Bool) (station 
 
 -- a message that was wanting stays so
 pub short_settled : {O W : Type 0} (meanings : Standing O W) (end settled_end : FeedEnd) (old new : W) (message : List ℕ) → SettlesFed meanings end settled_end old new → IsShortAt end message → IsShortAt settled_end message
-short_settled meanings end All old new message settles short = tt
-short_settled meanings end (Lost field) old new message settles short = tt
 short_settled meanings end (Wanting kind fault) old new message settles short = subst (λ (e : FeedEnd). IsShortAt e message) (settles.wanting kind fault refl) short
-short_settled meanings end (Fault fault) old new message settles short = tt
+short_settled meanings end _ old new message settles short = tt
 
 -- no turn was left for a step that is an event
 pub one_event : (c : ℕ) (step : Step) (message : List ℕ) → is_event step ≡ true → (e : Event) × (events_of_signs c (signs_of_step step message) ≡ e ∷ [])

@@ -32,9 +32,7 @@ module _ {S K : Type 0} where
 receiver_fine : (c : ℕ) (r : ReceiveEnd) (behind : ServeEnd) → receiver_first c r behind ≡ Done → WentThroughAll r × (behind ≡ Done)
 receiver_fine c (Ended rest) behind e = (tt, e)
 receiver_fine c (LostSync field at) behind e = (tt, e)
-receiver_fine c SourceFault behind e = absurd (let n : Receiver c SourceFault ≡ Done = e in cc n)
-receiver_fine c Long behind e = absurd (let n : Receiver c Long ≡ Done = e in cc n)
-receiver_fine c (Fault fault) behind e = absurd (let n : Receiver c (Fault fault) ≡ Done = e in cc n)
+receiver_fine c other behind e = absurd (let n : Receiver c other ≡ Done = e in cc n)
 
 sender_fine : (c : ℕ) (s : SendEnd) (behind : ServeEnd) → sender_first c s behind ≡ Done → (s ≡ sending.Quiet) × (behind ≡ Done)
 sender_fine c sending.Quiet behind e = (refl, e)

@@ -40,13 +40,8 @@ split_end (a ∷ xs) x (f ∷ front) y back e =
 -- ---- the entry of an answer
 
 is_one : (event : Event) (result : Result Outcome SwitchFault) → result ≢ Err Spent → entry_of event result ≡ entry_by event result ∷ []
-is_one event (Ok o) some = refl
-is_one event (Err DiskFault) some = refl
-is_one event (Err SayFault) some = refl
-is_one event (Err (Full used need limit)) some = refl
-is_one event (Err (Stopped by)) some = refl
 is_one event (Err Spent) some = absurd (some refl)
-is_one event (Err NoMemory) some = refl
+is_one event _ some = refl
 
 doubt_of : (event : Event) (others : List Event) (result : Result Outcome SwitchFault) → entry_by event result ≡ Doubt others → IsErrOf result DiskFault
 doubt_of event others (Ok o) e = cc

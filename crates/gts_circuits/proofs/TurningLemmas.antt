@@ -67,12 +67,8 @@ module _ {P : Type 0} (station : StationMeanings P) (b : Beginning)
       any = inl (added more (λ s. Unit {0}) is stands tt)
 
       fault : (f : SwitchFault) → AddsFed c events message (Fault f) more → Feeds c events message (Fault f) (seen_by b p) (seen_by b q)
-      fault DiskFault a = (more, a, any)
-      fault SayFault a = (more, a, any)
-      fault (Full used need limit) a = (more, a, any)
-      fault (Stopped by) a = (more, a, any)
       fault Spent a = absurd a
-      fault NoMemory a = (more, a, any)
+      fault _ a = (more, a, any)
 
       go : (e : FeedEnd) → AddsFed c events message e more → Feeds c events message e (seen_by b p) (seen_by b q)
       go All a = (more, a, any)

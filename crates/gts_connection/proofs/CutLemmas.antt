@@ -20,19 +20,13 @@ join_same d s bs (Feed c x) (Reopen e ∷ steps) len h = refl
 join_same d s bs (Feed c x) (Drain e ∷ steps) len h = refl
 join_same d s bs (Feed c x) (Restart ∷ steps) len h = refl
 join_same d s bs (Feed c x) (Compact ∷ steps) len h = refl
-join_same d s bs (Take c) steps len h = refl
-join_same d s bs (Reopen c) steps len h = refl
-join_same d s bs (Drain c) steps len h = refl
-join_same d s bs Restart steps len h = refl
-join_same d s bs Compact steps len h = refl
+join_same d s bs _ steps len h = refl
 
 pub length-after : (d : Directory) (bs : Connections) (step : Step) → length bs ≡ length d.circuits → length (after_step d bs step) ≡ length d.circuits
 length-after d bs (Feed c x) len = length-set bs c (get_or bs c [] ++ x) ∙ len
-length-after d bs (Take c) len = len
 length-after d bs (Reopen c) len = length-set bs c [] ∙ len
-length-after d bs (Drain c) len = len
 length-after d bs Restart len = length-map d.circuits (λ _. [])
-length-after d bs Compact len = len
+length-after d bs _ len = len
 
 joined_from : (d : Directory) (s : State) (bs : Connections) (steps : List Step) → length bs ≡ length d.circuits → AreSteps d steps → entries_from d s bs (joined steps) ≡ entries_from d s bs steps
 joined_from d s bs [] len h = refl

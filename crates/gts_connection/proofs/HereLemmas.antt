@@ -44,9 +44,7 @@ step_here kind d s bs (Take c) h = and_from (nat_lt c (length d.circuits)) true 
 step_here kind d s bs (Drain c) h =
     let lt : nat_lt c (length d.circuits) ≡ true = lt-ltb c (length d.circuits) h in
     done_here d (replicate (left_to_give (on_circuit s c) + 1) (Taken c)) (all_repeated (below (length d.circuits)) (left_to_give (on_circuit s c) + 1) (Taken c) lt)
-step_here kind d s bs (Reopen c) h = refl
-step_here kind d s bs Restart h = refl
-step_here kind d s bs Compact h = refl
+step_here kind d s bs _ h = refl
 
 steps_here : (kind : CaptureKind) (d : Directory) (s : State) (bs : Connections) (steps : List Step) → AreStepsOf kind d steps → list_all (is_here d) (entries_from d s bs steps) ≡ true
 steps_here kind d s bs [] h = refl

@@ -150,12 +150,7 @@ module _ (kind : CaptureKind) where
   some_text : (h : Head) → 0 < length (head_text h)
   unfolding dec
   some_text (FeedHead c n) = omega arith
-  some_text (TakeHead c) = omega arith
-  some_text (ReopenHead c) = omega arith
-  some_text (DrainHead c) = omega arith
-  some_text RestartHead = omega arith
-  some_text CompactHead = omega arith
-  some_text EndHead = omega arith
+  some_text _ = omega arith
 
   -- a step without bytes of its own
   read_step : (d : Directory) (n : ℕ) (step : Step) (bytes rest : List ℕ) → length bytes ≤ n → ((more : List ℕ) → length more < n → Readable d more) → IsHeadOf kind d (head_of step) → bytes ≡ step_text step ++ rest → Readable d bytes
@@ -238,17 +233,9 @@ module _ (kind : CaptureKind) where
 
   not_last : (step : Step) (rest : List ℕ) → LastHead (head_of step) (bytes_of_step step ++ rest) → ⊥
   not_last (Feed c bytes) rest (inl e) = cc
-  not_last (Take c) rest (inl e) = cc
-  not_last (Reopen c) rest (inl e) = cc
-  not_last (Drain c) rest (inl e) = cc
-  not_last Restart rest (inl e) = cc
-  not_last Compact rest (inl e) = cc
+  not_last _ rest (inl e) = cc
   not_last (Feed c bytes) rest (inr e) = let same : length bytes ≡ e.1 = let f = e.2 in cc in omega (arith, same, e.3, length-append bytes rest)
-  not_last (Take c) rest (inr e) = let f = e.2 in cc
-  not_last (Reopen c) rest (inr e) = let f = e.2 in cc
-  not_last (Drain c) rest (inr e) = let f = e.2 in cc
-  not_last Restart rest (inr e) = let f = e.2 in cc
-  not_last Compact rest (inr e) = let f = e.2 in cc
+  not_last _ rest (inr e) = let f = e.2 in cc
 
   no_step : (d : Directory) (step : Step) (rest : List ℕ) (extra : List Step) (left : ℕ) → length d.circuits ≤ 100 → IsHeadOf kind d (head_of step) → Ending d (step_text step ++ rest) extra left → ⊥
   no_step d step rest extra left few valid ending =

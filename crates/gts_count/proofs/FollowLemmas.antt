@@ -32,9 +32,8 @@ abbrev pub told_by : Choice → Outcome
 told_by ch = elim ch as (λ _. Outcome) [ Repeats index ↦ Resend index | Draws index position ↦ Draw index | Nothing_waits ↦ Nothing ]
 
 pub choice_is : (ch : Choice) (i : ℕ) → told_by ch ≡ Draw i → (p : ℕ) × (ch ≡ Draws i p)
-choice_is (Repeats j) i e = absurd (cc)
 choice_is (Draws j p) i e = (p, let same : j ≡ i = cc in ap (λ (x : ℕ). Draws x p) same)
-choice_is Nothing_waits i e = absurd (cc)
+choice_is _ i e = absurd (cc)
 
 here_of : (d : Directory) (event : Event) → circuit_of_event event < length d.circuits → list_all (is_here d) (Done event ∷ []) ≡ true
 here_of d event here = ap (λ (b : Bool). b && true) (lt-ltb (circuit_of_event event) (length d.circuits) here)

@@ -8,18 +8,12 @@ use Rattle.gts_engine.proofs.SettleLemmas.{pieces_join, cuts_at, doubted, settle
 -- an event that has a record leads to an outcome that has one
 heard_has : (circuit : ℕ) (kind : Kind) (message : List ℕ) (x : Outcome) → (heard_record circuit kind message x ≡ [] → ⊥) → HasRecord x
 heard_has circuit kind message (Accepted position circuits) some = tt
-heard_has circuit kind message (Duplicate position) some = absurd (some refl)
-heard_has circuit kind message (Asked found missing) some = absurd (some refl)
-heard_has circuit kind message (Refused refusal) some = absurd (some refl)
-heard_has circuit kind message (LineLost field) some = absurd (some refl)
-heard_has circuit kind message (Resend index) some = absurd (some refl)
 heard_has circuit kind message (Draw index) some = tt
-heard_has circuit kind message Nothing some = absurd (some refl)
+heard_has circuit kind message _ some = absurd (some refl)
 
 taken_has : (circuit : ℕ) (ch : Choice) → (taken_record circuit ch ≡ [] → ⊥) → HasRecord (outcome_by ch)
-taken_has circuit (Repeats index) some = absurd (some refl)
 taken_has circuit (Draws index position) some = tt
-taken_has circuit Nothing_waits some = absurd (some refl)
+taken_has circuit _ some = absurd (some refl)
 
 pub record_has : (d : Directory) (s : State) (event : Event) → (event_record d s event ≡ [] → ⊥) → HasRecord (outcome d s event)
 record_has d s (Heard circuit kind message) some = heard_has circuit kind message (outcome d s (Heard circuit kind message)) some

@@ -49,13 +49,7 @@ module _ (d : Directory) (s : State) (c : ℕ) (kind : Kind) (message : List ℕ
       by_test (inr few) =
           let e = bytes_are at used bytes limit p n few is in
           subst IsSome (sym (no_room d s from c kind message p n few (omega (arith, over, e)) from (bytes_for n) d.limit refl refl refl)) refl
-  over_of at from used bytes limit (Duplicate position) is over = absurd (accepted_of at (Duplicate position) (Full used bytes limit) is)
-  over_of at from used bytes limit (Asked n m) is over = absurd (accepted_of at (Asked n m) (Full used bytes limit) is)
-  over_of at from used bytes limit (Refused refusal) is over = absurd (accepted_of at (Refused refusal) (Full used bytes limit) is)
-  over_of at from used bytes limit (LineLost field) is over = absurd (accepted_of at (LineLost field) (Full used bytes limit) is)
-  over_of at from used bytes limit (Resend index) is over = absurd (accepted_of at (Resend index) (Full used bytes limit) is)
-  over_of at from used bytes limit (Draw index) is over = absurd (accepted_of at (Draw index) (Full used bytes limit) is)
-  over_of at from used bytes limit Nothing is over = absurd (accepted_of at Nothing (Full used bytes limit) is)
+  over_of at from used bytes limit other is over = absurd (accepted_of at other (Full used bytes limit) is)
 
   -- what is due is among the bytes that are wanted
   due_of : (at used bytes limit : ℕ) (o : Outcome) → room d s at event o ≡ Some (Full used bytes limit) → (s.count ≡ most_accepted → ⊥) → draw_size written * due s ≤ bytes
@@ -63,13 +57,7 @@ module _ (d : Directory) (s : State) (c : ℕ) (kind : Kind) (message : List ℕ
       let e = bytes_are at used bytes limit p n few is in
       let more : draw_size written * due s ≤ draw_size written * (due s + n) = mul-le-mul_left (draw_size written) (omega arith) in
       omega (arith, e, more)
-  due_of at used bytes limit (Duplicate position) is few = absurd (accepted_of at (Duplicate position) (Full used bytes limit) is)
-  due_of at used bytes limit (Asked n m) is few = absurd (accepted_of at (Asked n m) (Full used bytes limit) is)
-  due_of at used bytes limit (Refused refusal) is few = absurd (accepted_of at (Refused refusal) (Full used bytes limit) is)
-  due_of at used bytes limit (LineLost field) is few = absurd (accepted_of at (LineLost field) (Full used bytes limit) is)
-  due_of at used bytes limit (Resend index) is few = absurd (accepted_of at (Resend index) (Full used bytes limit) is)
-  due_of at used bytes limit (Draw index) is few = absurd (accepted_of at (Draw index) (Full used bytes limit) is)
-  due_of at used bytes limit Nothing is few = absurd (accepted_of at Nothing (Full used bytes limit) is)
+  due_of at used bytes limit other is few = absurd (accepted_of at other (Full used bytes limit) is)
 
   module _ (at used bytes limit : ℕ) (is : full d s at event ≡ Some (Full used bytes limit)) where
     -- there is room in a compacted journal, with bytes to spare and without
@@ -147,23 +135,15 @@ full_is _ bytes is = absurd (let e : None ≡ Some bytes = is in cc e)
 -- nothing changed then
 pub idle_full : (result : Result Outcome SwitchFault) (bytes : ℕ) → bytes_wanted result ≡ Some bytes → IsIdleAnswer result
 idle_full (Ok o) bytes is = absurd (let e : None ≡ Some bytes = is in cc e)
-idle_full (Err (Full used need limit)) bytes is = tt
 idle_full (Err DiskFault) bytes is = absurd (let e : None ≡ Some bytes = is in cc e)
 idle_full (Err SayFault) bytes is = absurd (let e : None ≡ Some bytes = is in cc e)
-idle_full (Err (Stopped by)) bytes is = tt
 idle_full (Err Spent) bytes is = absurd (let e : None ≡ Some bytes = is in cc e)
-idle_full (Err NoMemory) bytes is = tt
+idle_full _ bytes is = tt
 
 -- an accepted bulletin has a record
 pub recorded : (o : Outcome) → IsAccepted o → HasRecord o
 recorded (Accepted p n) accepted = tt
-recorded (Duplicate position) accepted = absurd accepted
-recorded (Asked n m) accepted = absurd accepted
-recorded (Refused refusal) accepted = absurd accepted
-recorded (LineLost field) accepted = absurd accepted
-recorded (Resend index) accepted = absurd accepted
-recorded (Draw index) accepted = absurd accepted
-recorded Nothing accepted = absurd accepted
+recorded _ accepted = absurd accepted
 
 -- an engine that answers so had not stopped
 pub went_on : (E : Type 0) (result : Result Outcome SwitchFault) (before : Option Device) → IfSome before (λ by. (result ≡ Err (Stopped by)) × E)

@@ -21,8 +21,7 @@ take_outcome ch = elim ch as (λ _. Outcome) [ Repeats index ↦ Resend index | 
 -- no take is turned away
 no_take : (ch : Choice) → IsTurnedAway (take_outcome ch) → ⊥
 no_take (Repeats index) h = h
-no_take (Draws index position) h = h
-no_take Nothing_waits h = h
+no_take _ h = h
 
 pub turned-state : (d : Directory) (s : State) (event : Event) → IsTurnedAway (outcome d s event) → after d s event ≡ s
 turned-state d s (Heard c kind message) h = state_heard d s c kind message (outcome d s (Heard c kind message)) h

@@ -60,11 +60,8 @@ group-high a b e = grind (arith, common_steps, or_cases, equal-high, and_parts, 
 
 lacks-group : (x : ℕ) (bbb : Option (List ℕ)) → x < 32 → is_group bbb ≡ true → lacks x (group_text bbb) ≡ true
 lacks-group x None low is = refl
-lacks-group x (Some []) low is = absurd (cc)
-lacks-group x (Some (a ∷ [])) low is = absurd (cc)
-lacks-group x (Some (a ∷ b ∷ [])) low is = absurd (cc)
 lacks-group x (Some (a ∷ b ∷ c ∷ [])) low is = grind (arith, common_steps, and_parts, group-high, one_more, capital)
-lacks-group x (Some (a ∷ b ∷ c ∷ e ∷ more)) low is = absurd (cc)
+lacks-group x _ low is = absurd (cc)
 
 -- the text of a heading whose letters lack it
 pub lacks-heading_text : (x : ℕ) (h : HeadingFields) → x < 32 → lacks x h.tt ≡ true → lacks x h.aa ≡ true → lacks x h.cccc ≡ true

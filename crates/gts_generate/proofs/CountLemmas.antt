@@ -12,8 +12,7 @@ accepted-heard d s c kind message _ = omega arith
 
 accepted-take : (s : State) (c : ℕ) (ch : Choice) → (after_take s c ch).count ≡ s.count + count_by is_accepted (take_outcome ch ∷ [])
 accepted-take s c (Repeats i) = omega arith
-accepted-take s c (Draws i p) = omega arith
-accepted-take s c Nothing_waits = omega arith
+accepted-take s c _ = omega arith
 
 accepted-event : (d : Directory) (s : State) (event : Event) → (after d s event).count ≡ s.count + count_by is_accepted (outcome d s event ∷ [])
 accepted-event d s (Heard c kind message) = accepted-heard d s c kind message (outcome d s (Heard c kind message))

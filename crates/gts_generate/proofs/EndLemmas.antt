@@ -50,8 +50,7 @@ ends-heard d s c kind message _ e one all = all
 
 ends-take : (s : State) (c : ℕ) (ch : Choice) → list_all one_end s.accepted ≡ true → list_all one_end (after_take s c ch).accepted ≡ true
 ends-take s c (Repeats i) all = all
-ends-take s c (Draws i p) all = all
-ends-take s c Nothing_waits all = all
+ends-take s c _ all = all
 
 ends-event : (d : Directory) (s : State) (event : Event) → hears_one_end event ≡ true → list_all one_end s.accepted ≡ true
     → list_all one_end (after d s event).accepted ≡ true

@@ -37,10 +37,9 @@ events-done (e ∷ es) = (tt, events-done es)
 step-done : (s : State) (bs : Connections) (step : Step) → AllDone (entries_of_step s bs step)
 step-done s bs (Feed c bytes) = events-done (events_added c (slice_index_or bs c []) bytes)
 step-done s bs (Take c) = (tt, tt)
-step-done s bs (Reopen c) = tt
 step-done s bs (Drain c) = events-done (takes_of_drain s c)
 step-done s bs Restart = (tt, tt)
-step-done s bs Compact = tt
+step-done s bs _ = tt
 
 steps-done : (d : directories.Directory) (s : State) (bs : Connections) (ss : List Step) → AllDone (entries_from d s bs ss)
 steps-done d s bs [] = tt

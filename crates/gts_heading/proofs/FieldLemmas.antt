@@ -86,10 +86,7 @@ letters_take bytes x e = grind (arith, common_steps, chosen, take-append-drop)
 
 letters_again : (letters rest : List ℕ) → IsTrue (is_bbb letters) → letters_at (letters ++ rest) ≡ Ok (letters, rest)
 letters_again (a ∷ b ∷ c ∷ []) rest e = rw e refl
-letters_again [] rest e = absurd cc
-letters_again (a ∷ []) rest e = absurd cc
-letters_again (a ∷ b ∷ []) rest e = absurd cc
-letters_again (a ∷ b ∷ c ∷ d ∷ more) rest e = absurd cc
+letters_again _ rest e = absurd cc
 
 pub bare_group_takes : (bytes : List ℕ) (x : Option (List ℕ) × List ℕ) → bare_group_at bytes ≡ Ok x
     → (bytes ≡ group_text x.0 ++ x.1) × IsTrue (is_group x.0)
@@ -132,10 +129,7 @@ unfolding message_group_at bare_group_at
 message_group_again None gap rest is (inl e) = rw e refl
 message_group_again None gap rest is (inr e) = rw e refl
 message_group_again (Some (a ∷ b ∷ c ∷ [])) gap rest is is_gap = rw (no_cr a b c is, is) refl
-message_group_again (Some []) gap rest is is_gap = absurd cc
-message_group_again (Some (a ∷ [])) gap rest is is_gap = absurd cc
-message_group_again (Some (a ∷ b ∷ [])) gap rest is is_gap = absurd cc
-message_group_again (Some (a ∷ b ∷ c ∷ d ∷ more)) gap rest is is_gap = absurd cc
+message_group_again _ gap rest is is_gap = absurd cc
 
 -- ---- the gap
 

@@ -16,10 +16,9 @@ pub record Closing {T E : Type 0} (stands : T → List E → Type 0) (v : View E
   pub few : length v.seen ≤ MOST_TURNS
 
 no_tickets : (st : Stage) → (Live st → tickets st ≡ 0) → tickets st ≡ 0
-no_tickets Idle f = refl
 no_tickets (Waiting t) f = f tt
 no_tickets (Holding t) f = f tt
-no_tickets Spent f = refl
+no_tickets _ f = refl
 
 module _ {T E : Type 0} (stands : T → List E → Type 0) where
   -- where all are joined, no other view is left

@@ -164,10 +164,9 @@ module _ {T E : Type 0} (stands : T → List E → Type 0) where
   united_place c name n own p other e = (λ i. cond (ne_eqb n name other i) (joined_as (length c.joined)) (c.place n)) ∙ e
 
   same_stage : (c : Common E) (name j : ℕ) (own : List E) (seen : List (ℕ × E)) (st : Stage) → FitsStage c j seen st → FitsStage (united c name own) j seen st
-  same_stage c name j own seen Idle t = tt
   same_stage c name j own seen (Waiting k) t = t
   same_stage c name j own seen (Holding k) t = t
-  same_stage c name j own seen Spent t = tt
+  same_stage c name j own seen _ t = tt
 
   pub seats_differ : (c : Common E) (i j : ℕ) (v u : View E) → Fits c i v → Fits c j u → j ≢ i → u.name ≢ v.name
   seats_differ c i j v u f g other e = other (sym (one_seat (c.place v.name) i j f.named (ap c.place (sym e) ∙ g.named)))

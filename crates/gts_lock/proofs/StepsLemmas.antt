@@ -64,10 +64,9 @@ module _ {T E : Type 0} (stands : T → List E → Type 0) where
   keeps_drawer c id t j l e = (λ i. cond (ne_eqb t c.next (λ (z : t ≡ c.next). omega arith) i) id (c.drawer t)) ∙ e
 
   stage_drawn : (c : Common E) (id j : ℕ) (seen : List (ℕ × E)) (st : Stage) → FitsStage c j seen st → FitsStage (drawn c id) j seen st
-  stage_drawn c id j seen Idle f = tt
   stage_drawn c id j seen (Waiting t) f = let l = f.1 in (f.0, omega arith, keeps_drawer c id t j f.1 f.2)
   stage_drawn c id j seen (Holding t) f = let l = f.1 in (f.0, omega arith, keeps_drawer c id t j f.1 f.2, f.3)
-  stage_drawn c id j seen Spent f = tt
+  stage_drawn c id j seen _ f = tt
 
   fits_drawn : (c : Common E) (id j : ℕ) (u : View E) → c.next ≢ MOST_TURNS → Fits c j u → Fits (drawn c id) j u
   fits_drawn c id j u not f = record {
@@ -207,11 +206,10 @@ module _ {T E : Type 0} (stands : T → List E → Type 0) where
   grown c name e = record c { history = c.history ++ (name, e) ∷ []; serving = c.serving + 1 }
 
   stage_grown : (c : Common E) (id j : ℕ) (name : ℕ) (e : E) (seen : List (ℕ × E)) (st : Stage) → c.drawer c.serving ≡ id → j ≢ id → FitsStage c j seen st → FitsStage (grown c name e) j seen st
-  stage_grown c id j name e seen Idle own other f = tt
   stage_grown c id j name e seen (Waiting t) own other f =
       let l = f.0 in let not : c.serving ≢ t = λ z. other (sym f.2 ∙ (ap c.drawer (sym z) ∙ own)) in (omega arith, f.1, f.2)
   stage_grown c id j name e seen (Holding t) own other f = absurd (other (sym f.2 ∙ (ap c.drawer f.0 ∙ own)))
-  stage_grown c id j name e seen Spent own other f = tt
+  stage_grown c id j name e seen _ own other f = tt
 
   -- another view's name isn't this one, nor is it joined into the other view
   other_name : (c : Common E) (id j : ℕ) (v u : View E) → Fits c id v → Fits c j u → j ≢ id → v.name ≢ u.name
@@ -286,9 +284,8 @@ module _ {T E : Type 0} (stands : T → List E → Type 0) where
       }
 
   one_entry : (es : List E) → length es ≡ 1 → (e : E) × (es ≡ e ∷ [])
-  one_entry [] l = absurd (omega arith)
   one_entry (e ∷ []) l = (e, refl)
-  one_entry (e ∷ f ∷ fs) l = absurd (omega arith)
+  one_entry _ l = absurd (omega arith)
 
   pub raises : (slots id : ℕ) (m : Sat) (t : ℕ) (es : List E) (x : T) → m.0.stage ≡ Holding t → m.1 ≡ (0, Some x) ∷ [] → length es ≡ 1 → stands x (entries m.0.seen ++ es)
       → Allows Rule slots id m 0 (λ n. (n + 1) % 18446744073709551616) (Raises es (step slots 0 1 0 none) m)

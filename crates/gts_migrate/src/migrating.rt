@@ -45,6 +45,7 @@ fn take_over<P: Station>(
     old.bounds_hold();
     let (core, journal) = open_core_any(alloc, station, old)?;
     let prepared = prepare(alloc, &core, old, new, waiting);
+    // One step of the proof, in place of one for each part at each way out.
     drop(core);
     let prepared = prepared?;
     rewrite(alloc, station, journal, new, &prepared)

@@ -65,6 +65,7 @@ pub fn try_over<P: Station>(
     // A limit leaves few draws due.
     old.bounds_hold();
     let (core, journal) = open_core_any(alloc, station, old)?;
+    // What is let go of here is one step of the proof each, in place of one for each part at each way out.
     drop(journal);
     let Ok(refusal) = refusal_of(alloc, &core, old, new) else {
         drop(core);

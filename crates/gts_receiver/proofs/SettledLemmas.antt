@@ -35,10 +35,7 @@ pub tries_on : (w : Bool) (c : ℕ) (kind : Kind) (message : List ℕ) (fault : 
     → (w ≡ true → is_wanting (Err fault) ≡ true → AreMost turns) → TriesOn w (Heard c kind message) fault turns
 tries_on w c kind message (Full used need limit) turns kept = kept
 tries_on w c kind message NoMemory turns kept = kept
-tries_on w c kind message DiskFault turns kept = λ yes is. absurd (cc is)
-tries_on w c kind message SayFault turns kept = λ yes is. absurd (cc is)
-tries_on w c kind message (Stopped by) turns kept = λ yes is. absurd (cc is)
-tries_on w c kind message Spent turns kept = λ yes is. absurd (cc is)
+tries_on w c kind message _ turns kept = λ yes is. absurd (cc is)
 
 pub no_try : (w : Bool) (c : ℕ) (field : FrameField) (fault : SwitchFault) (turns : ℕ) → TriesOn w (Lost c field) fault turns
 no_try w c field fault turns = λ yes is. absurd (cc is)
@@ -46,23 +43,19 @@ no_try w c field fault turns = λ yes is. absurd (cc is)
 -- at other answers no event is tried again
 pub stopped_tries : (w : Bool) (event : Event) (by : Device) (turns : ℕ) → TriesOn w event (Stopped by) turns
 stopped_tries w (Heard c kind message) by turns = λ yes is. absurd (cc is)
-stopped_tries w (Lost c field) by turns = λ yes is. absurd (cc is)
-stopped_tries w (Taken c) by turns = λ yes is. absurd (cc is)
+stopped_tries w _ by turns = λ yes is. absurd (cc is)
 
 pub disk_tries : (w : Bool) (event : Event) (turns : ℕ) → TriesOn w event DiskFault turns
 disk_tries w (Heard c kind message) turns = λ yes is. absurd (cc is)
-disk_tries w (Lost c field) turns = λ yes is. absurd (cc is)
-disk_tries w (Taken c) turns = λ yes is. absurd (cc is)
+disk_tries w _ turns = λ yes is. absurd (cc is)
 
 pub say_tries : (w : Bool) (event : Event) (turns : ℕ) → TriesOn w event SayFault turns
 say_tries w (Heard c kind message) turns = λ yes is. absurd (cc is)
-say_tries w (Lost c field) turns = λ yes is. absurd (cc is)
-say_tries w (Taken c) turns = λ yes is. absurd (cc is)
+say_tries w _ turns = λ yes is. absurd (cc is)
 
 pub spent_tries : (w : Bool) (event : Event) (turns : ℕ) → TriesOn w event Spent turns
 spent_tries w (Heard c kind message) turns = λ yes is. absurd (cc is)
-spent_tries w (Lost c field) turns = λ yes is. absurd (cc is)
-spent_tries w (Taken c) turns = λ yes is. absurd (cc is)
+spent_tries w _ turns = λ yes is. absurd (cc is)
 
 module _ (c : ℕ) (kind : Kind) (message : List ℕ) where
   abbrev heard : Event
@@ -72,31 +65,19 @@ module _ (c : ℕ) (kind : Kind) (message : List ℕ) where
       → settled_own true now ≡ settled_own true before
   tried_so (Err (Full used need limit)) before now is adds = one_try before now (Idle heard (Full used need limit)) refl adds
   tried_so (Err NoMemory) before now is adds = one_try before now (Idle heard NoMemory) refl adds
-  tried_so (Ok o) before now is adds = absurd (cc is)
-  tried_so (Err DiskFault) before now is adds = absurd (cc is)
-  tried_so (Err SayFault) before now is adds = absurd (cc is)
-  tried_so (Err (Stopped by)) before now is adds = absurd (cc is)
-  tried_so (Err Spent) before now is adds = absurd (cc is)
+  tried_so _ before now is adds = absurd (cc is)
 
   went_on : (answer : Result Outcome SwitchFault) (before now : Seen) → is_wanting answer ≡ true → Answers before heard SaysNoMore answer now → GoesOn before now
   went_on (Err (Full used need limit)) before now is adds = goes_on before now (Idle heard (Full used need limit) ∷ []) adds
   went_on (Err NoMemory) before now is adds = goes_on before now (Idle heard NoMemory ∷ []) adds
-  went_on (Ok o) before now is adds = absurd (cc is)
-  went_on (Err DiskFault) before now is adds = absurd (cc is)
-  went_on (Err SayFault) before now is adds = absurd (cc is)
-  went_on (Err (Stopped by)) before now is adds = absurd (cc is)
-  went_on (Err Spent) before now is adds = absurd (cc is)
+  went_on _ before now is adds = absurd (cc is)
 
   -- a try takes a turn
   pub one_more : (answer : Result Outcome SwitchFault) (before now : Seen) (tries : ℕ) → is_wanting answer ≡ true → Answers before heard SaysNoMore answer now
       → tries ≤ before.turns → tries + 1 ≤ now.turns
   one_more (Err (Full used need limit)) before now tries is adds so_far = one_added before now (Idle heard (Full used need limit)) tries adds so_far
   one_more (Err NoMemory) before now tries is adds so_far = one_added before now (Idle heard NoMemory) tries adds so_far
-  one_more (Ok o) before now tries is adds so_far = absurd (cc is)
-  one_more (Err DiskFault) before now tries is adds so_far = absurd (cc is)
-  one_more (Err SayFault) before now tries is adds so_far = absurd (cc is)
-  one_more (Err (Stopped by)) before now tries is adds so_far = absurd (cc is)
-  one_more (Err Spent) before now tries is adds so_far = absurd (cc is)
+  one_more _ before now tries is adds so_far = absurd (cc is)
 
   -- a try more
   pub again : (first : Result Outcome SwitchFault) (old now : Seen) → is_wanting first ≡ true → Hears true heard first old now

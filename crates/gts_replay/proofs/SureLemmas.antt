@@ -27,9 +27,8 @@ sure_step : (s : State) (bs : Connections) (step : Step) → AllSure (entries_of
 sure_step s bs (Feed c bytes) = sure_done _
 sure_step s bs (Take c) = (tt, tt)
 sure_step s bs (Drain c) = sure_done _
-sure_step s bs (Reopen c) = tt
 sure_step s bs Restart = (tt, tt)
-sure_step s bs Compact = tt
+sure_step s bs _ = tt
 
 pub sure_from : (d : Directory) (s : State) (bs : Connections) (steps : List Step) → AllSure (entries_from d s bs steps)
 sure_from d s bs [] = tt

@@ -78,7 +78,4 @@ place_of_segment (a ∷ b ∷ c ∷ []) is =
           let both = and_parts (eqb a 80) (is_ascii_uppercase b) before in
           stands a b c (eqb-true a 80 both.0) (upper_range b both.1) (upper_range c passed.0)
     ]
-place_of_segment [] is = absurd (true≢false (sym is))
-place_of_segment (a ∷ []) is = absurd (true≢false (sym is))
-place_of_segment (a ∷ b ∷ []) is = absurd (true≢false (sym is))
-place_of_segment (a ∷ b ∷ c ∷ d ∷ rest) is = absurd (true≢false (sym is))
+place_of_segment _ is = absurd (true≢false (sym is))

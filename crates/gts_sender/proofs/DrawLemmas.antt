@@ -186,12 +186,7 @@ left_line : (d : Directory) (s : State) (c : ℕ) (out : List ℕ) (o : Outcome)
     → out ≡ frame_of_draw d (after d s (Taken c)) c index
 left_line d s c out (Resend k) index leaves is = let e : k ≡ index = cc is in leaves ∙ ap (frame_of_draw d (after d s (Taken c)) c) e
 left_line d s c out (Draw k) index leaves is = let e : k ≡ index = cc is in leaves ∙ ap (frame_of_draw d (after d s (Taken c)) c) e
-left_line d s c out (Accepted position circuits) index leaves is = absurd (cc is)
-left_line d s c out (Duplicate position) index leaves is = absurd (cc is)
-left_line d s c out (Asked found missing) index leaves is = absurd (cc is)
-left_line d s c out (Refused refusal) index leaves is = absurd (cc is)
-left_line d s c out (LineLost field) index leaves is = absurd (cc is)
-left_line d s c out Nothing index leaves is = absurd (cc is)
+left_line d s c out _ index leaves is = absurd (cc is)
 
 module _ (c : ℕ) (old new : Seen) (out : List ℕ) where
   abbrev the_frame : ℕ → Frame
@@ -246,16 +241,13 @@ module _ (c : ℕ) (old new : Seen) (out : List ℕ) where
   given o bytes (Ok true) answers w = subst (λ (l : List ℕ). SendsMore c old new l (Ok true)) (sym w.2) (whole o w.0 answers w.1)
   given o bytes (Ok false) answers w = subst (λ (l : List ℕ). SendsMore c old new l (Ok false)) (sym w.1) (none o answers w.0)
   given o bytes (Err (ends.LineFault index)) answers w = broken o index bytes answers w.0 w.1
-  given o bytes (Err ends.Quiet) answers w = absurd w
-  given o bytes (Err (ends.Fault fault)) answers w = absurd w
+  given o bytes _ answers w = absurd w
 
   one_failed : (f : SwitchFault) → AnswersTake c out (Err f) old new → (f ≡ SayFault → ⊥) → (f ≡ NoMemory → ⊥) → TakesSome c [] (Err f) old new
   one_failed SayFault answers silent memory = absurd (silent refl)
   one_failed NoMemory answers silent memory = absurd (memory refl)
   one_failed DiskFault answers silent memory = (refl, record { beside = 0; few = omega arith; added = answers })
-  one_failed (Full used need limit) answers silent memory = (refl, answers)
-  one_failed (Stopped device) answers silent memory = (refl, answers)
-  one_failed Spent answers silent memory = (refl, answers)
+  one_failed _ answers silent memory = (refl, answers)
 
   pub failed : (fault : SwitchFault) → AnswersTake c out (Err fault) old new → (fault ≡ SayFault → ⊥) → (fault ≡ NoMemory → ⊥)
       → SendsMore c old new [] (Err (ends.Fault fault))

@@ -48,12 +48,7 @@ gave_nothing d s c o is none = no_frame (choice d s c) o is none
 given_line : (d : Directory) (t : State) (c : ℕ) (o : Outcome) (index : ℕ) → given_index o ≡ Some index → frame_of_outcome d t c o ≡ frame_of_draw d t c index
 given_line d t c (Resend k) index is = let e : k ≡ index = cc is in ap (frame_of_draw d t c) e
 given_line d t c (Draw k) index is = let e : k ≡ index = cc is in ap (frame_of_draw d t c) e
-given_line d t c (Accepted position circuits) index is = absurd (cc is)
-given_line d t c (Duplicate position) index is = absurd (cc is)
-given_line d t c (Asked found missing) index is = absurd (cc is)
-given_line d t c (Refused refusal) index is = absurd (cc is)
-given_line d t c (LineLost field) index is = absurd (cc is)
-given_line d t c Nothing index is = absurd (cc is)
+given_line d t c _ index is = absurd (cc is)
 
 one_frame : (d : Directory) (s : State) (c : ℕ) (frame : Frame) → Gave d s c frame → frame_of d s (taken c) ≡ frame.text
 one_frame d s c frame gave = given_line d (after d s (Taken c)) c (outcome d s (Taken c)) frame.index gave.index ∙ sym gave.text

@@ -53,13 +53,11 @@ first from kind position = codes "A" ++ from ∷ take 1 (letters kind) ++ 0 ∷ 
 
 split : (from : ℕ) (kind : Kind) (position : ℕ) (body more : List ℕ) → record_text (Accept from kind position body) ++ more ≡ first from kind position ++ (bytes_of 4 (length body) ++ (body ++ more))
 split from An position body more = refl
-split from Bi position body more = refl
-split from Fx position body more = refl
+split from _ position body more = refl
 
 length-first : (from : ℕ) (kind : Kind) (position : ℕ) → length (first from kind position) ≡ 12
 length-first from An position = refl
-length-first from Bi position = refl
-length-first from Fx position = refl
+length-first from _ position = refl
 
 record IsFirst (front : List ℕ) : Type 0 where
   from : ℕ

@@ -57,9 +57,7 @@ module _ (d : Directory) (s : State) (old new : List Call) (j : InHand) (taken :
   stops_taken (Feed at) stops = ended (Feed at) tt stops
   stops_taken (Diverged index own fed) stops = ended (Diverged index own fed) tt stops
   stops_taken (Open fault) stops = absurd (no_open fault stops.end stops.ends)
-  stops_taken SourceFault stops = quiet SourceFault tt (λ e. e)
-  stops_taken DiskFault stops = quiet DiskFault tt (λ e. e)
-  stops_taken NoMemory stops = quiet NoMemory tt (λ e. e)
+  stops_taken other stops = quiet other tt (λ e. e)
 
   pub unread_taken : (answer : FollowEnd) → IsReadEnd answer → HasTaken answer d s (j.gate + 1) j.seal taken old new left
   unread_taken SourceFault kind = quiet SourceFault tt (λ e. e)

@@ -97,15 +97,13 @@ by_since true used seal = behind_within used seal
 by_since false used seal = tt
 
 command_within : (words : List (List ℕ)) → AllWithin (command_of words)
-command_within [] = tt
 command_within (name ∷ []) = alone_within name
 command_within (name ∷ count ∷ []) =
     by_name count (same name (codes "generate")) (same name (codes "serve")) (same name (codes "unpack")) (same name (codes "gaps"))
     (same name (codes "migrate"))
-command_within (name ∷ since ∷ used ∷ []) = tt
 command_within (name ∷ since ∷ used ∷ seal ∷ []) =
     by_since (same name (codes "ship") && same since (codes "since")) (used_in used) (seal_in seal)
-command_within (name ∷ since ∷ used ∷ seal ∷ more ∷ words) = tt
+command_within _ = tt
 
 pub within_connections : (words : List (List ℕ)) (connections : ℕ) → command_of words ≡ Some (Serve connections)
     → (1 ≤ connections) × (connections ≤ MOST_CONNECTIONS)

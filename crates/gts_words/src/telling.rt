@@ -5,7 +5,7 @@ use std::fmt;
 pub const VERSION: &str = "1.0.0";
 
 /// The kit that it is proved and built with.
-pub const KIT: &str = "rattle-kit-13b";
+pub const KIT: &str = "rattle-kit-13f";
 
 /// The commands, each with what it does.
 const COMMANDS: &str = "\

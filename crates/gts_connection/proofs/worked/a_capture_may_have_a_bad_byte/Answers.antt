@@ -5,12 +5,7 @@ use Rattle.gts_connection.proofs.worked.a_capture_may_have_a_bad_byte.Goals as g
 no_head : (h : Head) (more : List ℕ) → IsHead two h → head_text h ≡ codes "T 02" ++ more → ⊥
 unfolding dec
 no_head (TakeHead c) more here e = omega (arith, here, ap (λ (xs : List ℕ). get_or xs 3 0) e)
-no_head (FeedHead c n) more here e = omega (arith, ap (λ (xs : List ℕ). get_or xs 0 0) e)
-no_head (ReopenHead c) more here e = omega (arith, ap (λ (xs : List ℕ). get_or xs 0 0) e)
-no_head (DrainHead c) more here e = omega (arith, ap (λ (xs : List ℕ). get_or xs 0 0) e)
-no_head RestartHead more here e = omega (arith, ap (λ (xs : List ℕ). get_or xs 0 0) e)
-no_head CompactHead more here e = omega (arith, ap (λ (xs : List ℕ). get_or xs 0 0) e)
-no_head EndHead more here e = omega (arith, ap (λ (xs : List ℕ). get_or xs 0 0) e)
+no_head _ more here e = omega (arith, ap (λ (xs : List ℕ). get_or xs 0 0) e)
 
 pub returns : goal.returns
 unfolding readable dec

@@ -4,23 +4,15 @@ use Rattle.gts_connection.proofs.worked.a_capture_of_traffic_has_no_step_of_the_
 -- no head begins so
 no_restart : (h : Head) (more : List ℕ) → IsHeadOf Traffic two h → head_text h ≡ 82 ∷ more → ⊥
 unfolding dec
-no_restart (FeedHead c n) more here e = omega (arith, ap (λ (xs : List ℕ). get_or xs 0 0) e)
-no_restart (TakeHead c) more here e = omega (arith, ap (λ (xs : List ℕ). get_or xs 0 0) e)
-no_restart (ReopenHead c) more here e = omega (arith, ap (λ (xs : List ℕ). get_or xs 0 0) e)
-no_restart (DrainHead c) more here e = omega (arith, ap (λ (xs : List ℕ). get_or xs 0 0) e)
 no_restart RestartHead more here e = cc
 no_restart CompactHead more here e = cc
-no_restart EndHead more here e = omega (arith, ap (λ (xs : List ℕ). get_or xs 0 0) e)
+no_restart _ more here e = omega (arith, ap (λ (xs : List ℕ). get_or xs 0 0) e)
 
 no_compaction : (h : Head) (more : List ℕ) → IsHeadOf Traffic two h → head_text h ≡ 67 ∷ more → ⊥
 unfolding dec
-no_compaction (FeedHead c n) more here e = omega (arith, ap (λ (xs : List ℕ). get_or xs 0 0) e)
-no_compaction (TakeHead c) more here e = omega (arith, ap (λ (xs : List ℕ). get_or xs 0 0) e)
-no_compaction (ReopenHead c) more here e = omega (arith, ap (λ (xs : List ℕ). get_or xs 0 0) e)
-no_compaction (DrainHead c) more here e = omega (arith, ap (λ (xs : List ℕ). get_or xs 0 0) e)
 no_compaction RestartHead more here e = cc
 no_compaction CompactHead more here e = cc
-no_compaction EndHead more here e = omega (arith, ap (λ (xs : List ℕ). get_or xs 0 0) e)
+no_compaction _ more here e = omega (arith, ap (λ (xs : List ℕ). get_or xs 0 0) e)
 
 pub returns : goal.returns
 unfolding readable dec

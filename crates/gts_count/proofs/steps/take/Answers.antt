@@ -1,4 +1,4 @@
-use Rattle.gts_count.proofs.Cited.{ℕ, ◌+◌, List, sym, ap, ◌∙◌, Directory, State, Taken, all_done, on, spoken, after_all-append}
+use Rattle.gts_count.proofs.Cited.{ℕ, ◌+◌, List, sym, ap, ◌∙◌, Directory, Draw, Nothing, State, Taken, all_done, on, spoken, after_all-append}
 use Rattle.gts_count.proofs.TakingLemmas.{counts_taken}
 use Rattle.gts_count.proofs.CallLemmas.{counted_call, state_with}
 use Rattle.gts_count.proofs.steps.take.Goals as goal
@@ -12,4 +12,4 @@ returns-clause-called g c =
     (λ o entries events stood told counts.
     counts_taken d (state_with meanings now o entries events) entries c.args.parts.now.counting c.note_taken.new.counting c.args.c c.requires.circuit c.bytes.result.now c.take-answer.result told
     (λ i e. ap (λ (s : State). spoken d s (Taken c.args.c)) (sym (after_all-append d (meanings.begin o) entries (all_done events)))
-    ∙ c.take-answer.ensures.frame o entries events i stood e ∙ ap (λ (bytes : List ℕ). on (c.args.c + 1) bytes) (sym c.bytes.ensures)) c.note_taken.ensures.noted counts)
+    ∙ c.take-answer.ensures.frame o entries events (Draw i) stood e (λ (n : Draw i ≡ Nothing). cc n) ∙ ap (λ (bytes : List ℕ). on (c.args.c + 1) bytes) (sym c.bytes.ensures)) c.note_taken.ensures.noted counts)

@@ -11,17 +11,9 @@ waiting_done Dropped found done is = is
 -- and where it failed
 waiting_failed : (T : Type 0) (w : Waiting) (found : Option (ℕ × ℕ)) (fault : MigrateFault) → AnswersWaiting {T = T} w (Err fault) found → AnswersWaiting {T = Unit {0}} w (Err fault) found
 waiting_failed T Refused found (Open e) is = is
-waiting_failed T Refused found (Waits c count) is = is
-waiting_failed T Refused found (Full at wanted limit) is = is
-waiting_failed T Refused found DiskFault is = is
-waiting_failed T Refused found SayFault is = is
-waiting_failed T Refused found NoMemory is = is
+waiting_failed T Refused found _ is = is
 waiting_failed T Dropped found (Open e) is = is
-waiting_failed T Dropped found (Waits c count) is = is
-waiting_failed T Dropped found (Full at wanted limit) is = is
-waiting_failed T Dropped found DiskFault is = is
-waiting_failed T Dropped found SayFault is = is
-waiting_failed T Dropped found NoMemory is = is
+waiting_failed T Dropped found _ is = is
 
 pub prepare-prepared-requires-clause-due : goal.prepare-prepared-requires-clause-due
 prepare-prepared-requires-clause-due g c =
