@@ -34,12 +34,16 @@ DEVICES = {DISK_FAULT, OUTPUT_FAULT, INPUT_FAULT}
 SECONDS_OF_WAITING = 0.5
 
 
+# Ports below those that the system gives to whoever connects. Each is given once, since folders run side by side.
+PORTS = random.sample(range(10000, 32000), 22000)
+
+
 def quiet_ports(count):
-    """Ports on which nobody listens now, below those that the system gives to whoever connects."""
+    """Ports on which nobody listens now."""
     held = []
     while len(held) < count:
         try:
-            held.append(socket.create_server((HOST, random.randrange(10000, 32000))))
+            held.append(socket.create_server((HOST, PORTS.pop())))
         except OSError:
             pass
     ports = [one.getsockname()[1] for one in held]

@@ -23,7 +23,9 @@ refusal_fails _ is = cc is
 
 pub compacted : (r : Result (Unit {0}) SwitchFault) → status_compacted r ≡ Done → r ≡ Ok tt
 compacted (Ok done) is = refl
-compacted _ is = absurd (cc is)
+compacted (Err switch.DiskFault) is = absurd (cc is)
+compacted (Err (switch.Full used need limit)) is = absurd (cc is)
+compacted (Err _) is = absurd (cc is)
 
 pub said : (r : Result (Unit {0}) Failed) → status_said r ≡ Done → r ≡ Ok tt
 said (Ok done) is = refl

@@ -30,7 +30,10 @@ three n m k = lacks-append 10 (then_number n ++ then_number m) (then_number k) (
 
 refusal : (r : Refusal) → lacks 10 (32 ∷ refusal_text r) ≡ true
 refusal (Message field.StartLine) = refl
-refusal _ = refl
+refusal (Message _) = refl
+refusal (Request asked.Asker) = refl
+refusal (Request _) = refl
+refusal Many = refl
 
 loss : (field : FrameField) → lacks 10 (32 ∷ lost_text field) ≡ true
 loss lost.Length = refl
@@ -97,7 +100,8 @@ take-untold d t c Nothing_waits = refl
 
 take-heading : (ch : Choice) → HasHeading (take_outcome ch) no_heading
 take-heading (Repeats i) = tt
-take-heading _ = tt
+take-heading (Draws i p) = tt
+take-heading Nothing_waits = tt
 
 event-lines : (word : List ℕ) (kind : Outcome → Bool) (counted : Counted word kind) (d : Directory) (s : State) (event : Event) (rest : List ℕ)
     → lines_from true word (channel_bytes 0 (spoken d s event) ++ rest)

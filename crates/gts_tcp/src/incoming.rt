@@ -192,15 +192,14 @@ fn read_within(
     ensures { IfOk result (λ count. count ≤ length into.new) }
 {
     let looks = idle.map_or(u64::MAX, |seconds| u64::from(seconds) * LOOKS_A_SECOND);
-    let mut last = not_connected();
     for _ in 0..looks {
         goes_on(stop)?;
         match stream.read(into) {
-            Err(error) if has_waited(&error) => last = error,
+            Err(error) if has_waited(&error) => {}
             answer => return answer,
         }
     }
-    Err(last)
+    Err(io::Error::from(ErrorKind::TimedOut))
 }
 
 /// Whether a caller from this address is the neighbour at that host. On the machine itself the system lets callers come from

@@ -32,6 +32,9 @@ const A_SECOND: u32 = 1_000;
 /// How many looks in turn may find nothing of a neighbour that was sent the end: those of five seconds.
 const MOST_SILENT_LOOKS: u32 = 5_000 / LONGEST_WAIT;
 
+/// How many writes in turn may have waited in vain until an operator is told: those of a minute.
+const MOST_WAITS: u32 = 60 * A_SECOND / LONGEST_WAIT;
+
 /// The way to a neighbour's port, over the connection that stands there now.
 #[derive(Drop)]
 struct Way<'a, R: Net<Listener = TcpListener, Stream = TcpStream> + Clock + Eprint> {
@@ -67,12 +70,19 @@ impl<R: Net<Listener = TcpListener, Stream = TcpStream> + Clock + Eprint> Way<'_
         Ok(())
     }
 
-    /// Writes all of a piece on the connection that stands.
+    /// Writes all of a piece on the connection that stands. Where the neighbour takes nothing for a minute, the operator is told.
     fn write_whole(&mut self, piece: &[u8]) -> io::Result<()> {
         let stop = self.patience.stop;
-        match &mut self.stream {
-            Some(stream) => write_on(stream, piece, stop)?,
-            None => return Err(not_connected()),
+        let mut rest = piece;
+        for _ in 0..u64::MAX {
+            let Some(stream) = &mut self.stream else {
+                return Err(not_connected());
+            };
+            rest = write_on(stream, rest, stop)?;
+            if rest.is_empty() {
+                break;
+            }
+            self.tell_unread();
         }
         if self.place.idle.is_some() {
             self.written = Instant::now(self.rt).ok();
@@ -80,10 +90,28 @@ impl<R: Net<Listener = TcpListener, Stream = TcpStream> + Clock + Eprint> Way<'_
         Ok(())
     }
 
-    /// Connects anew, and writes all of a piece there.
+    /// Fails where the neighbour ends a connection that it has just taken, as one does that turns its caller away, or a relay that
+    /// doesn't reach it. A frame that is written on such a connection is lost.
+    fn outlasts_a_look(&mut self) -> io::Result<()> {
+        let Some(stream) = &mut self.stream else {
+            return Err(not_connected());
+        };
+        reads_in_turn(stream)?;
+        let mut piece = [0u8; BYTES_A_LOOK];
+        let first = stream.read(&mut piece);
+        stream.set_nonblocking(true)?;
+        match first {
+            Ok(0) => Err(io::Error::from(ErrorKind::ConnectionReset)),
+            Err(error) if !has_waited(&error) => Err(error),
+            _ => Ok(()),
+        }
+    }
+
+    /// Connects anew, and writes all of a piece there, where the neighbour doesn't end that connection at once.
     fn write_anew(&mut self, piece: &[u8]) -> Result<(), LineCause> {
         let port = self.place.output;
         named(self.connect(LONGEST_TRY), LineCall::Connect, port)?;
+        named(self.outlasts_a_look(), LineCall::Connect, port)?;
         named(self.write_whole(piece), LineCall::Write, port)
     }
 
@@ -104,6 +132,15 @@ impl<R: Net<Listener = TcpListener, Stream = TcpStream> + Clock + Eprint> Way<'_
         }
     }
 
+    /// Tells the operator that the neighbour has taken nothing of a piece for a minute.
+    fn tell_unread(&mut self) {
+        self.tell_away(LineCause {
+            call: LineCall::Write,
+            port: self.place.output,
+            error: io::Error::from(ErrorKind::TimedOut),
+        });
+    }
+
     /// Tells the operator that the neighbour is there, where it was told that it isn't.
     fn tell_reached(&mut self) {
         let port = self.place.output;
@@ -117,6 +154,7 @@ impl<R: Net<Listener = TcpListener, Stream = TcpStream> + Clock + Eprint> Way<'_
         self.look();
         let first = named(self.write_whole(piece), LineCall::Write, self.place.output);
         let Err(mut last) = first else {
+            self.tell_reached();
             return Ok(());
         };
         let mut pauses = Pauses::new();
@@ -260,27 +298,37 @@ fn write_some(stream: &mut TcpStream, piece: &[u8]) -> io::Result<usize>
     second
 }
 
-/// Writes all of a piece on a connection. Where a write takes a part, the next goes on behind it.
-fn write_on(stream: &mut TcpStream, piece: &[u8], stop: Option<&Stop>) -> io::Result<()> {
+/// Writes a piece on a connection. Where a write takes a part, the next goes on behind it. Answers what was not taken: nothing, but
+/// where for a minute no byte was.
+fn write_on<'a>(
+    stream: &mut TcpStream,
+    piece: &'a [u8],
+    stop: Option<&Stop>,
+) -> io::Result<&'a [u8]> {
     let mut rest = piece;
+    let mut waits = 0u32;
     for _ in 0..u64::MAX {
-        if rest.is_empty() {
-            return Ok(());
+        if rest.is_empty() || waits >= MOST_WAITS {
+            break;
         }
         goes_on(stop)?;
         match write_some(stream, rest) {
             Ok(0) => return Err(io::Error::from(ErrorKind::WriteZero)),
-            Ok(count) => rest = &rest[count..],
+            Ok(count) => {
+                rest = &rest[count..];
+                waits = 0;
+            }
             // A neighbour that answers at length reads no further until its answers are read.
             Err(error) if has_waited(&error) => {
                 if reads_an_end(stream) {
                     return Err(not_connected());
                 }
+                waits = waits.saturating_add(1);
             }
             Err(error) => return Err(error),
         }
     }
-    Err(not_connected())
+    Ok(rest)
 }
 
 /// A third of so many seconds, in milliseconds.
