@@ -26,8 +26,8 @@ unset = record {
 abbrev pub origin_with : Beginning → List ℕ → Origin
 origin_with b compactions = record b.origin { compactions = compactions }
 
--- Full was answered behind entries behind which a compacted journal would have been full for the event with an eighth of the limit to
--- spare
+-- Full was answered behind entries behind which a compacted journal would have been full for the event, with an eighth of the limit to
+-- spare where draws were due
 abbrev pub IsCrampedFor : Beginning → List Entry → Event → Type 0
 IsCrampedFor b entries event = IsSome (full_with_spare b.origin.directory (state_at b.origin entries) event)
 
@@ -54,8 +54,9 @@ Answers b entries event Holds result =
 module _ {P : Type 0} (station : StationMeanings P) (b : Beginning) where
   -- An engine stands for these entries since the beginning, and for these events behind them, which are gathered: it stands for what an
   -- engine does whose caller says the frames, with the compactions that were done meanwhile, of which there are none where no room is
-  -- made. Where it is, Full was answered only where a compacted journal would have been full with an eighth of the limit to
-  -- spare. A device failed at an entry only where the count of its faults rose, and where none did at any, the count is as it was.
+  -- made. Where it is, Full was answered only where a compacted journal would have been full, with an eighth of the limit to spare
+  -- where draws were due. A device failed at an entry only where the count of its faults rose, and where none did at any, the count is
+  -- as it was.
   pub record StandsWith (entries : List Entry) (events : List Event) (e : Engine P) : Type 0 where
     pub compactions : List ℕ
     pub keeps : Gathers station.observed Caller (origin_with b compactions) entries events (shown station.calls e)

@@ -62,7 +62,7 @@ module _ (d : Directory) (s : State) (c : ℕ) (kind : Kind) (message : List ℕ
   module _ (at used bytes limit : ℕ) (is : full d s at event ≡ Some (Full used bytes limit)) where
     -- there is room in a compacted journal, with bytes to spare and without
     pub pays : TellsSpare true d s bytes → full_with_spare d s event ≡ None
-    pays observed = fits_of at (compacted_size (need d s) + spare d) used bytes limit (outcome d s event) is observed.0 observed.1
+    pays observed = fits_of at (compacted_size (need d s) + spare d (due s)) used bytes limit (outcome d s event) is observed.0 observed.1
 
     pub fits_compacted : TellsSpare true d s bytes → full d s (compacted_size (need d s)) event ≡ None
     fits_compacted observed = let within = observed.1 in fits_of at (compacted_size (need d s)) used bytes limit (outcome d s event) is observed.0 (omega (arith, within))
@@ -78,11 +78,11 @@ module _ (d : Directory) (s : State) (c : ℕ) (kind : Kind) (message : List ℕ
 
     -- or there isn't
     pub cramped : TellsSpare false d s bytes → IsSome (full_with_spare d s event)
-    cramped observed = over_of at (compacted_size (need d s) + spare d) used bytes limit (outcome d s event) is observed
+    cramped observed = over_of at (compacted_size (need d s) + spare d (due s)) used bytes limit (outcome d s event) is observed
 
 -- whether there are bytes to spare, by a sum that stops at the greatest number
 pub spare_tells : (d : Directory) (s : State) (size bytes total : ℕ) → (s.count ≡ most_accepted → ⊥) → size ≡ min (length (checkpoint_text (need d s))) (2 ^ 64 - 1)
-    → total ≡ min (min (size + (42 + seal_size written + d.limit / 8)) (2 ^ 64 - 1) + bytes) (2 ^ 64 - 1) → d.limit < 2 ^ 63 → (b : Bool) → nat_le total d.limit ≡ b → TellsSpare b d s bytes
+    → total ≡ min (min (size + (42 + seal_size written + spare d (due s))) (2 ^ 64 - 1) + bytes) (2 ^ 64 - 1) → d.limit < 2 ^ 63 → (b : Bool) → nat_le total d.limit ≡ b → TellsSpare b d s bytes
 spare_tells d s size bytes total few size_is total_is low true e = (few, omega (arith, size_is, total_is, low, leb-true total d.limit e))
 spare_tells d s size bytes total few size_is total_is low false e = inr (omega (arith, size_is, total_is, low, leb-false total d.limit e))
 

@@ -1,23 +1,24 @@
 -- A message is heard, and room is made for a bulletin for which a journal has none.
-use Rattle.std.specs.Prelude.{◌≡◌, ◌⊎◌, ℕ, ◌+◌, ◌/◌, ◌<◌, ◌≤◌, Bool, true, false, List, [], ◌∷◌, ◌++◌, Option, Some, None, Result, Ok, Err, IsOk, IsSome}
-use Rattle.gts_engine.specs.Cited.Below.{AfterCall, Directory, DiskFault, Doubt, Entry, Event, Full, IsAnswerCause, IsCause, Outcome, State, StationMeanings, SwitchFault, all_done, compacted_size, entry_of, full, most_accepted, need, outcome}
+use Rattle.std.specs.Prelude.{◌≡◌, ◌⊎◌, ℕ, ◌+◌, ◌/◌, ◌<◌, ◌≤◌, Bool, true, false, ◌==◌, List, [], ◌∷◌, ◌++◌, Option, Some, None, Result, Ok, Err, if◌then◌else◌, IsOk, IsSome}
+use Rattle.gts_engine.specs.Cited.Below.{AfterCall, Directory, DiskFault, Doubt, Entry, Event, Full, IsAnswerCause, IsCause, Outcome, State, StationMeanings, SwitchFault, all_done, compacted_size, due, entry_of, full, most_accepted, need, outcome}
 use Rattle.gts_engine.specs.declared.mode.SayMode.{SayMode}
 use Rattle.gts_engine.specs.Engine.{Engine, Shown, shown}
 use Rattle.gts_engine.specs.Origin.{Origin, compacted_after, state_at, used_at}
 use Rattle.gts_engine.specs.Keeping.{Gathers, Keeps, meanings_of}
 
--- the bytes that a compaction is to leave free beside all that is due, so that it pays for itself: an eighth of the limit (profile)
-abbrev pub spare : Directory → ℕ
-spare d = d.limit / 8
+-- The bytes that a compaction is to leave free beside all that is due, where so many draws are due, so that it pays for itself: an
+-- eighth of the limit (profile). Where no draw is due there are none, since no draw would give room later.
+abbrev pub spare : Directory → ℕ → ℕ
+spare d draws = if draws == 0 then 0 else d.limit / 8
 
 -- a compacted journal would be full for an event, with these bytes to spare
 abbrev pub full_with_spare : Directory → State → Event → Option SwitchFault
-full_with_spare d s event = full d s (compacted_size (need d s) + spare d) event
+full_with_spare d s event = full d s (compacted_size (need d s) + spare d (due s)) event
 
 -- a compacted journal would have room for so many bytes more, with those to spare, and a position is left; or it would not
 abbrev pub TellsSpare : Bool → Directory → State → ℕ → Type 0
-TellsSpare true d s bytes = (s.count ≡ most_accepted → ⊥) × (compacted_size (need d s) + spare d + bytes ≤ d.limit)
-TellsSpare false d s bytes = (s.count ≡ most_accepted) ⊎ (d.limit < compacted_size (need d s) + spare d + bytes)
+TellsSpare true d s bytes = (s.count ≡ most_accepted → ⊥) × (compacted_size (need d s) + spare d (due s) + bytes ≤ d.limit)
+TellsSpare false d s bytes = (s.count ≡ most_accepted) ⊎ (d.limit < compacted_size (need d s) + spare d (due s) + bytes)
 
 -- the bytes that were wanted of a journal that was full
 abbrev pub bytes_wanted : Result Outcome SwitchFault → Option ℕ
@@ -31,8 +32,8 @@ module _ (observed : Type 0) (mode : SayMode) (o : Origin) (h : List Entry) (eve
     pub keeps : Keeps observed mode o (h ++ entry_of event result) e
     pub had_room : IsOk result → full o.directory (state_at o h) (used_at o h) event ≡ None
 
-  -- The journal was full for the event, and a compacted one has room with bytes to spare: behind these entries it was compacted,
-  -- and then the entry was added.
+  -- The journal was full for the event, and a compacted one has room with the bytes to spare: behind these entries it was
+  -- compacted, and then the entry was added.
   pub record AddsCompacted : Type 0 where
     pub keeps : Keeps observed mode (compacted_after o h) (h ++ entry_of event result) e
     pub was_full : IsSome (full o.directory (state_at o h) (used_at o h) event)
@@ -78,7 +79,7 @@ module _ {P : Type 0} (station : StationMeanings P) (mode : SayMode) (o : Origin
     pub leaves : AfterCall (meanings_of station mode) o entries events event result new
     pub had_room : IsOk result → full o.directory (state_at o so_far) (used_at o so_far) event ≡ None
 
-  -- The journal was full for the event, and a compacted one has room with bytes to spare: what was gathered was settled, the
+  -- The journal was full for the event, and a compacted one has room with the bytes to spare: what was gathered was settled, the
   -- journal was compacted behind it, and then the event came.
   pub record GathersCompacted : Type 0 where
     pub leaves : AfterCall (meanings_of station mode) (compacted_after o so_far) so_far [] event result new

@@ -1,5 +1,5 @@
-ghost use Rattle.std.specs.Prelude.{◌≡◌, ◌+◌, ◌^◌, ◌<◌};
-ghost use Rattle.gts_engine.specs.Cited.{GivesCheckpoint, Holds, IsSizeAt, State, TellsSpare, bytes_wanted as wanted_of, due, seal_size, written};
+ghost use Rattle.std.specs.Prelude.{◌≡◌, ◌+◌, ◌^◌, ◌<◌, ◌≤◌};
+ghost use Rattle.gts_engine.specs.Cited.{GivesCheckpoint, Holds, IsSizeAt, State, TellsSpare, all_waiting, bytes_wanted as wanted_of, due, seal_size, spare as spare_of, written};
 
 use gts_core::Core;
 use gts_directory::Directory;
@@ -56,16 +56,29 @@ pub(crate) fn bytes_wanted(answer: Result<Outcome, SwitchFault>) -> Option<u64>
     }
 }
 
-/// Whether a journal that is a checkpoint of this size alone has room for so many bytes more with an eighth of the limit to
-/// spare, and a position is left.
+/// The bytes that a compaction is to leave free beside all that is due, where so many draws are due: an eighth of the limit, and
+/// none where no draw is due.
+fn spare(directory: &Directory, draws: u64) -> u64
+    ensures value { result ≡ spare_of directory.now draws }
+    ensures bound { result ≤ 2 ^ 60 }
+{
+    if draws == 0 {
+        return 0;
+    }
+    directory.limit() / 8
+}
+
+/// Whether a journal that is a checkpoint of this size alone has room for so many bytes more, with an eighth of the limit to spare
+/// where draws are due, and a position is left.
 pub(crate) fn has_spare(core: &Core, directory: &Directory, size: u64, bytes: u64) -> bool
+    requires { all_waiting core.now.state.circuits < 2 ^ 64 }
     ensures { (s : State) → Holds directory.now core.now s → IsSizeAt directory.now s size
         → TellsSpare result directory.now s bytes }
 {
     if core.accepted() == MOST_ACCEPTED {
         return false;
     }
-    let limit = directory.limit();
-    let beside = BESIDE_CHECKPOINT + Version::written().seal_size() as u64 + limit / 8;
-    size.saturating_add(beside).saturating_add(bytes) <= limit
+    let spare = spare(directory, core.waiting());
+    let beside = BESIDE_CHECKPOINT + Version::written().seal_size() as u64 + spare;
+    size.saturating_add(beside).saturating_add(bytes) <= directory.limit()
 }

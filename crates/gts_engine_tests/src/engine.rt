@@ -367,6 +367,44 @@ fn room_is_made_for_all_that_is_drawn(rt: HostRuntime) -> Result<(), Fail> {
     Ok(())
 }
 
+/// The same with 2,400 bytes more of text.
+fn long_numbered(number: u32) -> [u8; 2_440] {
+    let short = numbered(number);
+    let mut message = [b' '; 2_440];
+    for i in 0..36 {
+        message[i] = short[i];
+    }
+    message[2_436] = b'\r';
+    message[2_437] = b'\r';
+    message[2_438] = b'\n';
+    message[2_439] = b'\x03';
+    message
+}
+
+/// How many of 40 long bulletins were accepted, each of which is drawn. A checkpoint and one of them take more than seven eighths of
+/// the limit.
+fn long_accepted_and_drawn(alloc: Global) -> Result<u32, Fail> {
+    let mut out = FrameBuf::new(alloc)?;
+    let mut engine = small_engine(alloc, 1, &[])?;
+    let mut accepted: u32 = 0;
+    for number in 0..40 {
+        let outcome = heard_with_room(alloc, &mut engine, &long_numbered(number));
+        if let Some(Outcome::Accepted { .. }) = outcome {
+            accepted = accepted.saturating_add(1);
+        }
+        let _ = taken(&mut engine, &mut out, SayMode::Caller);
+    }
+    drop(engine);
+    Ok(accepted)
+}
+
+#[test]
+fn room_is_made_with_nothing_to_spare_where_nothing_waits(rt: HostRuntime) -> Result<(), Fail> {
+    let accepted = long_accepted_and_drawn(rt.alloc())?;
+    assert!(rt; accepted == 40);
+    Ok(())
+}
+
 /// How many bulletins were accepted: of the first 600, of 50 behind them, and of 50 once as many were drawn as the first time
 /// were accepted.
 fn accepted_in_turns(

@@ -1,6 +1,6 @@
 use Rattle.gts_engine.proofs.Cited.{◌<◌, length, refl, sym, subst, ◌∙◌, err_from_is_err_and, Directory, Station, common_steps, arith}
 use Rattle.gts_engine.proofs.RoomingLemmas.{idle_full}
-use Rattle.gts_engine.proofs.RoomGatherLemmas.{gathers_plain, gathers_nothing, gathers_full, gathers_left, gathers_made}
+use Rattle.gts_engine.proofs.RoomGatherLemmas.{gathers_plain, going_settled, gathers_nothing, gathers_full, gathers_left, gathers_made}
 use Rattle.gts_engine.proofs.AnsweringLemmas.{cause_alike, cause_then, no_device_done, no_device_full}
 use Rattle.gts_engine.proofs.IdleLemmas.{no_device}
 use Rattle.gts_engine.proofs.engine.Engine.gather_hear_with_room.Goals as goal
@@ -18,6 +18,13 @@ returns-in_err-size-clause-called g c = λ mode.
     rw (p.1, p.2, c.in_err-size.ensures.memory)
     (gathers_nothing g.P.Station mode c.args.c c.args.kind c.args.message.now first c.in-Some.bytes wanted c.args.self.now c.gather_hear-answer.new.self
     (c.gather_hear-answer.ensures.called mode) c.gather_hear-answer.ensures.stopped c.gather_hear-answer.ensures.stops (c.gather_hear-answer.ensures.idle (idle_full first c.in-Some.bytes wanted)) c.gather_hear-answer.new.self refl)
+
+pub has_spare-requires : goal.has_spare-requires
+has_spare-requires g c =
+    let first = c.gather_hear-answer.result in
+    let wanted = sym c.bytes_wanted.ensures ∙ c.in-Some.is in
+    going_settled g.P.Station Station c.args.c c.args.kind c.args.message.now first c.in-Some.bytes wanted c.args.self.now c.gather_hear-answer.new.self
+    (c.gather_hear-answer.ensures.called Station) c.gather_hear-answer.ensures.stopped c.gather_hear-answer.ensures.stops (c.gather_hear-answer.ensures.idle (idle_full first c.in-Some.bytes wanted))
 
 pub returns-then-not-has_spare-clause-called : goal.returns-then-not-has_spare-clause-called
 returns-then-not-has_spare-clause-called g c = λ mode.

@@ -1,5 +1,5 @@
-use Rattle.gts_engine.proofs.Cited.{refl, sym, ◌∙◌, err_from_is_err_and, common_steps, arith}
-use Rattle.gts_engine.proofs.RoomingLemmas.{idle_full, plain, without_memory, full_either, left_off, made}
+use Rattle.gts_engine.proofs.Cited.{refl, sym, ◌∙◌, err_from_is_err_and, Station, common_steps, arith}
+use Rattle.gts_engine.proofs.RoomingLemmas.{idle_full, plain, going_mid, without_memory, full_either, left_off, made}
 use Rattle.gts_engine.proofs.AnsweringLemmas.{cause_alike, cause_then, no_device_done, no_device_full}
 use Rattle.gts_engine.proofs.IdleLemmas.{no_device}
 use Rattle.gts_engine.proofs.engine.Engine.hear_with_room_settled.Goals as goal
@@ -18,6 +18,14 @@ returns-in_err-size-clause-called g c = λ mode.
     rw (p.1, p.2, c.in_err-size.ensures.memory)
     (without_memory g.P.Station mode c.args.c c.args.kind c.args.message.now first bytes wanted c.args.self.now c.hear-answer.new.self
     (c.hear-answer.ensures.called mode) c.hear-answer.ensures.stopped (c.hear-answer.ensures.unchanged (idle_full first bytes wanted) c.requires.settled) c.hear-answer.new.self refl)
+
+pub has_spare-requires : goal.has_spare-requires
+has_spare-requires g c =
+    let bytes = c.in-Some.bytes in
+    let first = c.hear-answer.result in
+    let wanted = sym c.bytes_wanted.ensures ∙ c.in-Some.is in
+    going_mid g.P.Station Station c.args.c c.args.kind c.args.message.now first bytes wanted c.args.self.now c.hear-answer.new.self
+    (c.hear-answer.ensures.called Station) c.hear-answer.ensures.stopped (c.hear-answer.ensures.unchanged (idle_full first bytes wanted) c.requires.settled)
 
 pub returns-then-not-has_spare-clause-called : goal.returns-then-not-has_spare-clause-called
 returns-then-not-has_spare-clause-called g c = λ mode.
