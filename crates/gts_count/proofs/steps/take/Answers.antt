@@ -1,4 +1,4 @@
-use Rattle.gts_count.proofs.Cited.{ℕ, ◌+◌, List, sym, ap, ◌∙◌, Directory, Draw, Nothing, State, Taken, all_done, on, spoken, after_all-append}
+use Rattle.gts_count.proofs.Cited.{◌≡◌, ℕ, ◌+◌, List, sym, ap, ◌∙◌, Directory, Draw, Nothing, State, Taken, all_done, on, spoken, after_all-append}
 use Rattle.gts_count.proofs.TakingLemmas.{counts_taken}
 use Rattle.gts_count.proofs.CallLemmas.{counted_call, state_with}
 use Rattle.gts_count.proofs.steps.take.Goals as goal
