@@ -1,8 +1,10 @@
 """A plain reading of docs/FORMATS.md, for scripts: what the files of a journal open to, what of them is shipped, what becomes of a feed
 that a standby follows, and what another directory takes over of them. Python's standard library alone; it knows no index, queue or
-window of digests."""
+window of digests. How long a body may be it reads in the sources (bench/limits.py)."""
 import hashlib
 import re
+
+from limits import limit
 
 EOL = b'\r\r\n'
 MAGIC, OLDER = b'GTSJ0002', b'GTSJ0001'
@@ -12,7 +14,7 @@ HEADER = 40
 SEAL = 32
 UNSEALED_DRAW = 24
 DRAW_BYTES = UNSEALED_DRAW + SEAL
-LONGEST_BODY = 499_988
+LONGEST_BODY = limit('LONGEST_BODY')
 KINDS = {b'A': b'AN', b'B': b'BI', b'F': b'FX'}
 BODY = re.compile(rb'([A-Z]{4}[0-9]{2} [A-Z]{4} (?:0[1-9]|[12][0-9]|3[01])(?:[01][0-9]|2[0-3])[0-5][0-9])'
                   rb'( (?:RR|CC|AA|P[A-Z])[A-Z])? ?\r\r\n(.*)\r\r\n\x03', re.DOTALL)

@@ -10,7 +10,8 @@
 #include <string.h>
 #include <unistd.h>
 
-enum { PIECE = 65536, LONGEST = 500010, SEAL = 32 };
+/* LONGEST, the bytes of the longest frame, is given by who compiles this. */
+enum { PIECE = 65536, SEAL = 32 };
 
 static int capture, journal, receipts = 1, circuit;
 static off_t gate = 40;

@@ -176,11 +176,20 @@ def verdict(name, faults, line):
     return 1 if faults else 0
 
 
+# What a test imports beside Python's own, and Debian's package of each.
+NEEDS = {'pytest': 'python3-pytest', 'hypothesis': 'python3-hypothesis', 'yaml': 'python3-yaml'}
+
+
 def python():
-    """A Python that has pytest, hypothesis and yaml: this one, or that of the system."""
-    needs = 'import pytest, hypothesis, yaml'
-    fits = subprocess.run([sys.executable, '-c', needs], stderr=subprocess.DEVNULL).returncode == 0
-    return sys.executable if fits else '/usr/bin/python3'
+    """A Python that has what tests need: this one, or that of the system. Where there is none this script ends here, and says which
+    packages are missing."""
+    for each in (place for place in (sys.executable, '/usr/bin/python3') if os.access(place, os.X_OK)):
+        missing = [package for name, package in NEEDS.items()
+                   if subprocess.run([each, '-c', f'import {name}'], stderr=subprocess.DEVNULL).returncode]
+        if not missing:
+            return each
+    sys.exit(f'{os.path.basename(sys.argv[0])}: tests need what is missing here: as root `apt-get install {" ".join(missing)}`, or '
+             '`.ci/run packages` for all that the gate needs')
 
 
 def tested(name, program=None, broken=None, seed=1, seconds=180, nodes=(), more=()):

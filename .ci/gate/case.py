@@ -113,6 +113,8 @@ class Case:
         if verb == 'let':
             name, text = rest.split(' = ', 1)
             self.names[name] = self.spelled(text)
+        elif verb == 'read':
+            self.names[words[0]] = self.elsewhere(words[2]).removesuffix(b'\n')
         elif verb == 'text':
             write(name, self.lines(block))
         elif verb == 'bytes':
@@ -289,6 +291,11 @@ def in_folder(case, work):
 def folders():
     """The names of all folders of cases/, each of which is a case."""
     return sorted(name for name in os.listdir(CASES) if os.path.isdir(os.path.join(CASES, name)) and not name.startswith('__'))
+
+
+def another_letter(said):
+    """What a run says, with another last letter."""
+    return said[:-2] + b'#\n'
 
 
 def differences(name, program, altered=None):

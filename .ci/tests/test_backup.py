@@ -158,14 +158,12 @@ def test_the_pages_cut_of_a_circuits_file_is_of_that_circuit(folder, program):
 
 
 def test_the_pages_migrate_check_may_be_called_again(folder, program):
-    with open(os.path.join(TOP, 'docs/OPERATING.md'), encoding='utf-8') as file:
-        spans = re.findall(r'`(mkdir -p try [^`]*|ln [^`]* try/ [^`]*)`', file.read())
-    folder.wants('the commands', len(spans), 2)
+    text = commands('mkdir -p try', 2)
     folder.write('directory.toml', directory('AB', 'B', [0, 0, 0, 0]))
     folder.write('new.toml', 'window = 7\n' + directory('AB', 'B', [0, 0, 0, 0]))
     folder.run('init')
     before = folder.journal()
     for when in ('once', 'again'):
-        status, said = pasted(folder, program, '\n'.join(spans).replace('NEW', 'new.toml'))
+        status, said = pasted(folder, program, text.replace('NEW', 'new.toml'))
         folder.wants(f'what would change, {when}', (status, said.endswith(b'end\n')), (0, True))
     folder.wants('the journal behind it', folder.journal(), before)

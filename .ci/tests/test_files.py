@@ -15,6 +15,7 @@ import gate
 import pytest
 from gate import IN_MEMORY, SIDE_BY_SIDE, shortened
 from hypothesis import HealthCheck, given, settings, strategies
+from limits import limit
 from loopback import EOL
 
 MOST_SECONDS = 120
@@ -23,7 +24,7 @@ MOST_SECONDS = 120
 WIDE, NARROW, STREAMS = 20, 120, 120
 MOST_CIRCUITS = 64
 CENTRE = b'TVSV'
-LONGEST_MESSAGE, LONGEST_BODY, LONGEST_BARE = 500_000, 499_988, 499_989
+LONGEST_MESSAGE, LONGEST_BODY, LONGEST_BARE = (limit(name) for name in ('LONGEST_MESSAGE', 'LONGEST_BODY', 'LONGEST_BARE'))
 KINDS = [b'AN', b'BI', b'FX']
 SOH, ETX = b'\x01', b'\x03'
 END = b'0000000000'
@@ -251,7 +252,7 @@ def named(capture, peers, moment):
 # Texts that might be taken for something else.
 TEXTS = [b'NIL=', b'', b'A', EOL, b'A' + ETX + b'B', b'00000039AN' + SOH, b'SQN 001=', bytes(range(256))]
 # Where synchronisation is lost, and fronts of such places.
-LOSSES = [b'0000003X', b'9', b'00000001', b'00500001', b'00500000F', b'00000039AX', b'00000039NA', b'00000039AN\x02',
+LOSSES = [b'0000003X', b'9', b'00000001', b'%08d' % (LONGEST_MESSAGE + 1), b'%08dF' % LONGEST_MESSAGE, b'00000039AX', b'00000039NA', b'00000039AN\x02',
           b'00000003BI' + SOH + b'AB']
 # Parts of a message by their places in `message_of`, and what a rule of a field fails by.
 FAULTS = [(0, SOH + b'\r\n'), (2, b'  '), (2, b'1'), (2, b'12'), (4, b'sMVG'), (4, b'S1VG'), (5, b'0A'), (5, b'1'),

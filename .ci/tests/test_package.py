@@ -20,6 +20,7 @@ import gate
 import pytest
 import yaml
 from gate import TOP, Folder
+from limits import limit
 
 SECONDS = 180
 EXAMPLE = os.path.join(TOP, 'examples/first')
@@ -33,7 +34,7 @@ UNITS = ['gts_switch.service', 'gts_switch-receipts.service', 'gts_switch-status
 FOLLOWS = {('inactive', False): True, ('failed', False): True, ('inactive', True): False, ('failed', True): False,
            ('active', True): False, ('active', False): False, ('activating', False): False, ('deactivating', False): False,
            ('', False): False}
-USUAL_LIMIT = 1073741824
+USUAL_LIMIT = limit('USUAL_LIMIT')
 # The group of who reads logs, in the clean root.
 ADM = 4
 DIRECTORY = 'centre = "TVSV"\n[[circuit]]\nname = "A"\npeer = "AAAA"\n'
@@ -96,8 +97,10 @@ def check_page(text):
         wants(f'the page names {name}', name in text, True)
     wants('the page names the end 0', ' 0 All was done' in text, True)
     for line, status in lines:
-        pattern = re.sub(r'\\\{\w*\\\}', r'[A-Z]+', re.escape(line))
-        wants(f'the page names the end {status}, {line}', bool(re.search(rf' {status} {pattern} ', text)), True)
+        # The usage line stands below its heading.
+        head = line.partition(':')[0] if line == usage else line
+        pattern = re.sub(r'\\\{\w*\\\}', r'[A-Z]+', re.escape(head))
+        wants(f'the page names the end {status}, {line}', bool(re.search(rf' {status} {pattern} ', text)) and (head == line or line in text), True)
 
 
 def check_unit(unit, prefix):
@@ -177,8 +180,9 @@ def test_alerts_are_about_what_is_there(program, tmp_path):
 
 
 @pytest.mark.skipif(not shutil.which('promtool'), reason="the alerts weren't fired: promtool of Debian's prometheus isn't there")
-def test_alerts_fire_when_they_should():
-    status, said, line = run(['promtool', 'test', 'rules', os.path.join(TOP, '.ci/tests/alerts.yml')])
+@pytest.mark.parametrize('name', ['alerts', 'cluster_alerts'])
+def test_alerts_fire_when_they_should(name):
+    status, said, line = run(['promtool', 'test', 'rules', os.path.join(TOP, f'.ci/tests/{name}.yml')])
     wants('the alerts over what Prometheus was told', (status, said if status else '', line if status else ''), (0, '', ''))
 
 
@@ -229,7 +233,7 @@ def test_what_is_installed(program, broken, tmp_path):
     wants('it tells of neighbours on other hosts', 'IPAddressAllow' in said, True)
     text = page_text(os.path.join(prefix, 'share/man/man1/gts_switch.1'))
     check_page(text.replace('EXIT STATUS', '').split(' 0 All was done')[0] if broken == 'page' else text)
-    for name in ('gts-switch-status', 'gts-switch-follow', 'gts-switch-ship'):
+    for name in ('gts-switch-status', 'gts-switch-follow', 'gts-switch-ship', 'gts-switch-files'):
         wants(f'the page of {name}', f'{name} - ' in page_text(os.path.join(prefix, f'share/man/man1/{name}.1')), True)
     units = os.path.join(prefix, 'lib/systemd/system')
     for name in sorted(os.listdir(units)):
@@ -366,8 +370,8 @@ def test_the_package_in_a_clean_root(program, package, broken, tmp_path):
     status, said = dpkg(root, '--install', package)
     wants('the installation of the package', status, 0)
     wants('what was installed by hand is told', sorted(re.findall('^gts-switch: (.*) was installed by hand', said, re.M)), by_hand)
-    wants('all of it', len(by_hand), 11)
-    begins = ['daemon-reload', 'try-restart gts_switch.service gts_switch-receipts.service']
+    wants('all of it', len(by_hand), 13)
+    begins = ['daemon-reload', 'try-restart gts_switch.service gts_switch-receipts.service gts_switch-files@*.service']
     wants('systemd is told of the units', told_systemd(), begins)
     shutil.rmtree(os.path.join(root, 'usr/local'))
     asked.write('systemctl_fails', '')
@@ -387,11 +391,14 @@ def test_the_package_in_a_clean_root(program, package, broken, tmp_path):
     installed = Folder(os.path.join(root, 'usr/bin/gts_switch'), folder, DIRECTORY)
     wants('init of what was installed', installed.run('init'), (0, b'', ''))
     wants('the examples', sorted(os.listdir(os.path.join(root, 'usr/share/doc/gts-switch/examples'))),
-          ['alerts.yml', 'directory.toml', 'gts.conf', 'gts0.conf', 'gts0.nft'])
+          ['alerts.yml', 'cluster', 'directory.toml', 'gts.conf', 'gts0.conf', 'gts0.nft', 'upload'])
+    wants('those of two machines', sorted(os.listdir(os.path.join(root, 'usr/share/doc/gts-switch/examples/cluster'))),
+          ['alerts.yml', 'cib.xml', 'corosync.conf', 'directory.toml', 'gts.res', 'gts_switch-address.service', 'gts_switch.conf', 'sbd',
+           'timers', 'var-lib-gts_switch.mount'])
     before = everything(folder)
     for word in ('--remove', '--purge'):
         wants(f'{word} of the package', dpkg(root, word, 'gts-switch')[0], 0)
-        ends = ['disable --now ' + ' '.join(UNITS), 'stop gts_switch-standby.service gts_switch-status.service']
+        ends = ['disable --now ' + ' '.join(UNITS), 'stop gts_switch-standby.service gts_switch-status.service gts_switch-files@*.service']
         # A purge begins with a removal, and comes to postrm once more.
         ends += ['daemon-reload'] * (2 if word == '--purge' else 1)
         wants(f'what systemd is asked at {word}', told_systemd(), ends)

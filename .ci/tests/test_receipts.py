@@ -2,7 +2,7 @@
 is killed and started again and its log is renamed, and each line stands in the logs once, in order, at its place. Where its log was
 removed, it goes on behind what was given back, and where somebody wrote into it, behind its own last line. Where the receipts are
 renamed, those of the new file follow; zeros among them are passed over. Behind a loss of power, which took receipts that the log
-has, those that are left aren't written twice; of two at once the second ends, and says so; and a disk that is full is told in a
+has, those that are left aren't written twice, and zeros that it left behind them are cut off; of two at once the second ends, and says so; and a disk that is full is told in a
 line.
 
     --break line    one line is taken out of a log"""
@@ -27,6 +27,8 @@ OF_A_BLOCK = 128
 GIVEN_BACK = (5 * OF_A_BLOCK, 5 * OF_A_BLOCK + 1, 5 * OF_A_BLOCK - 1, 0)
 # A loss of power takes so many lines: the last of two that a log has, all of these and one more, and many.
 TAKEN = (1, 3, 2_500)
+# A loss of power leaves zeros where so many of the last receipts had been, and so many of them.
+ZEROS = ((1, 1), (3, 248), (5, 3 << 20))
 STAMPED = re.compile(rb'\d{4}-\d\d-\d\dT\d\d:\d\d:\d\d\.\d{3}Z (\d+) (.*)')
 
 
@@ -235,6 +237,53 @@ def test_a_loss_of_power_has_no_receipt_written_twice(tmp_path, broken, taken):
     assert is_kept and len(more) == 12
     assert b''.join(line + b'\n' for _, line in more) == text[place:]
     assert [at for at, line in more if not text.startswith(line + b'\n', at)] == []
+
+
+@pytest.mark.parametrize('zeros', ZEROS)
+@pytest.mark.parametrize('runs', [True, False])
+def test_zeros_behind_the_receipts_are_cut_off(tmp_path, broken, zeros, runs):
+    """Behind a loss of power: where receipts had been, some of which the log has, stand zeros. They are cut off before the next run, also
+    beside a stamper that is at work already, and the log goes on."""
+    receipts, log = str(tmp_path / 'receipts'), str(tmp_path / 'receipts.log')
+    appends(receipts, receipts_of(range(3_000)))
+    before = stamps(receipts, log)
+    place, _ = before[-zeros[0]]
+    os.truncate(receipts, place)
+    os.truncate(receipts, place + zeros[1])
+    running = stamper(receipts, log) if runs else None
+    try:
+        if runs:
+            time.sleep(1)
+        assert subprocess.run(['/usr/bin/python3', STAMPER, '--cut', receipts], timeout=gate.SECONDS).returncode == 0
+        assert os.stat(receipts).st_size == place
+        if runs:
+            time.sleep(0.5)
+        appends(receipts, b'START 2026-11-28T07:00:00Z\n' + receipts_of(range(4_000, 4_010)))
+        if runs:
+            awaits_lines(log, len(before) + 11)
+    finally:
+        if runs:
+            running.kill()
+            running.wait(gate.SECONDS)
+    behind = stamps(receipts, log)
+    if broken == 'line':
+        del behind[-1]
+    assert behind[:len(before)] == before and b'\0' not in read(receipts)
+    more = behind[len(before):]
+    assert [line for _, line in more] == [b'START 2026-11-28T07:00:00Z', *(receipt(number) for number in range(4_000, 4_010))]
+    assert [at for at, _ in more] == [place, *(place + 27 + sum(len(receipt(number)) + 1 for number in range(4_000, last))
+                                               for last in range(4_000, 4_010))]
+
+
+def test_where_nothing_is_to_be_cut_off_the_receipts_stay(tmp_path, broken):
+    receipts = str(tmp_path / 'receipts')
+    for text, left in ((b'', b''), (b'ACC', b'ACC'), (b'ACC\n', b'ACC\n'), (b'A\0C\n', b'A\0C\n'), (bytes(5 << 20), b''), (b'ACC\n\0', b'ACC\n')):
+        with open(receipts, 'wb') as file:
+            file.write(text)
+        assert subprocess.run(['/usr/bin/python3', STAMPER, '--cut', receipts], timeout=gate.SECONDS).returncode == 0
+        assert read(receipts) == (left[1:] if broken == 'line' else left)
+    done = subprocess.run(['/usr/bin/python3', STAMPER, '--cut', f'{receipts}.other'], stderr=subprocess.PIPE, timeout=gate.SECONDS)
+    assert (done.returncode, done.stderr.decode()) == (1, f'gts-switch-receipts: {receipts}.other: No such file or directory\n')
 
 
 def test_a_line_that_another_file_happens_to_have_there_is_not_gone_on_behind(tmp_path, broken):
