@@ -11,7 +11,7 @@ import time
 
 TOP = os.path.dirname(os.path.dirname(os.path.abspath(__file__)))
 sys.path[:0] = [os.path.join(TOP, 'bench'), os.path.join(TOP, 'packaging')]
-from gts_circuit import Circuit, Input, Message, Output, Receipts, Teller, message_of
+from gts_circuit import Circuit, Input, Message, Numbers, Output, Receipts, State, Teller, message_of
 
 SECONDS = 120
 PYTHON = '/usr/bin/python3'
@@ -118,17 +118,16 @@ class Service(Process):
 
 
 class Station(threading.Thread):
-    """The neighbour of a circuit, in a thread: it sends bulletins, and again what has no receipt, and keeps each message that comes once,
-    by its number and bytes."""
+    """The neighbour of a circuit, in a thread: it sends bulletins, and again what has no receipt, keeps each message that comes once, by its
+    number and bytes, and asks for numbers that are missing: what the switch had handed to a line is lost where it is killed."""
 
     def __init__(self, service, name):
         super().__init__(daemon=True)
-        circuit = service.circuit(name)
-        self.input = Input(circuit, Receipts(os.path.join(service.folder, 'receipts'), circuit.number), self.next_mark, Silent())
-        self.output = Output(circuit, Silent())
-        self.marks, self.to_send, self.is_over = 0, [], False
-        self.answered, self.got, self.seen, self.times = [], [], set(), []
-        self.first_at = self.last_at = None
+        self.circuit = service.circuit(name)
+        self.input = Input(self.circuit, Receipts(os.path.join(service.folder, 'receipts'), self.circuit.number), self.next_mark, Silent())
+        self.output = Output(self.circuit, Silent())
+        self.marks, self.ended, self.to_send, self.is_over = 0, 0, [], False
+        self.got, self.seen = [], set()
 
     def next_mark(self):
         self.marks += 1
@@ -145,17 +144,26 @@ class Station(threading.Thread):
         if message not in self.seen:
             self.seen.add(message)
             self.got.append(message)
-            self.last_at = time.monotonic()
-            self.first_at = self.first_at or self.last_at
+
+    def asks(self, numbers):
+        """Asks for what is missing, where the line into the switch has room."""
+        if self.output.ended != self.ended:
+            self.ended = self.output.ended
+            numbers.connection_ended()
+        asked = numbers.asks() if self.input.has_room() else b''
+        if asked:
+            self.input.put(self.input.request(asked))
 
     def run(self):
+        numbers = Numbers(self.circuit, State(':memory:', ''), Silent())
         while not self.is_over:
+            self.asks(numbers)
             while self.to_send and self.input.has_room():
                 self.input.put(Message(b'AN', message_of(b'001', self.to_send.pop(0))))
             answered = self.input.serves()
-            self.answered += [one.receipt[0] for one in answered]
             found = self.output.reads()
             for _, message in found:
+                numbers.judge(message)
                 self.takes(message)
             if not found and not answered:
                 time.sleep(0.002)
