@@ -41,6 +41,11 @@ module _ {P : Type 0} (station : StationMeanings P) (result : Result (Unit {0}) 
   may_ok (inl same) none = same.0
   may_ok (inr settled) none = (settled.nothing none).0
 
+  -- and all is as it was
+  pub may_same : MayHaveSettled station result old mid → (engine_of old).gathered ≡ false → mid ≡ old
+  may_same (inl same) none = same.1
+  may_same (inr settled) none = (settled.nothing none).1
+
   -- where nothing was gathered, nothing is held
   pub may_quiet : MayHaveSettled station result old mid → IsSound station old → (engine_of old).gathered ≡ false → (engine_of mid).held ≡ []
   may_quiet (inl same) sound none = ap part_held same.1 ∙ ap held_pieces (sound.rests none)

@@ -2,7 +2,7 @@ ghost use Rattle.std.specs.Prelude.{◌≡◌, ℕ, ◌<◌, List, length};
 ghost use Rattle.gts_sender.specs.Cited.{BeginsLine, HasLineCause, HasSendCause, Sends, SendsMore, SinkTook, WroteGiven, given_index};
 
 use crate::writing::{write_all, write_frames};
-use crate::{Outgoing, SendEnd};
+use crate::{OutgoingLine, SendEnd};
 use gts_calls::{Desk, Frames, Given};
 use gts_event::{Outcome, SwitchFault};
 use gts_frame::FrameBuf;
@@ -17,7 +17,7 @@ use std::sync::Wait;
 pub fn send<R: Wait, D: Desk, K: Sink, G: Gate>(
     rt: &R,
     desk: &mut D,
-    line: Outgoing,
+    line: OutgoingLine,
     sink: &mut K,
     given: &mut Given,
     bell: &Bell,
@@ -59,7 +59,7 @@ fn rest<R: Wait, K: Sink>(rt: &R, sink: &mut K, bell: &Bell, seen: Look)
 /// Begins the line anew at the desk, where the sink's connection is a new one.
 fn begin_line<D: Desk, K: Sink>(
     desk: &mut D,
-    line: Outgoing,
+    line: OutgoingLine,
     sink: &mut K,
 ) -> Result<(), SwitchFault>
     requires { line.circuit < length (D.seen desk.old).directory.circuits }
@@ -77,7 +77,7 @@ fn begin_line<D: Desk, K: Sink>(
 /// nothing waits behind them.
 fn send_some<D: Desk, K: Sink, G: Gate>(
     desk: &mut D,
-    line: Outgoing,
+    line: OutgoingLine,
     sink: &mut K,
     given: &mut Given,
     gate: &G,
