@@ -1,5 +1,5 @@
 -- The turns of a sender.
-use Rattle.gts_sender.proofs.Cited.{Accepted, AddsAll, AddsEntries, AddsJust, AllByRecursion, Anew, AnswersTake, AreSent, Asked, BeginsAnew, BeginsLine, Bool, Breaks, Directory, DiskFault, Done, Doubt, Draw, Duplicate, Entry, Err, Event, Fails, Frame, Full, Gave, GaveAll, GaveNoMore, Idle, IsFront, IsSent, LeavesFrame, LineLost, List, NoMemory, None, Nothing, Ok, Outcome, Refused, Resend, Result, SayFault, Seen, SendEnd, Sending, SendsMore, Some, Spent, State, Stopped, SwitchFault, Taken, TakesSome, TookLast, WroteFrames, WroteGiven, WroteUpTo, [], after, after_takes, ap, append-nil, append_assoc, arith, begun, false, fault_takes, frame_of_draw, frames, frames_added, frames_behind, frames_one, frames_spent, given_index, goes_further, goes_on, goes_on_spent, inl, inr, length, length-append, map-append, most_beside, outcome, own, own_added, own_frames, own_spent, refl, replicate, state_at, stays, subst, suc, sym, takes, texts, true, under, ℕ, ◌++◌, ◌+◌, ◌∙◌, ◌∷◌, ◌≡◌, ◌≤◌, ◌⊎◌}
+use Rattle.gts_sender.proofs.Cited.{AddsAll, AddsEntries, AllByRecursion, Anew, AnswersTake, AreSent, BeginsAnew, BeginsLine, Bool, Breaks, Directory, DiskFault, Done, Doubt, Draw, Entry, Err, Fails, Frame, Full, Gave, GaveAll, GaveNoMore, Idle, IsFront, IsSent, LeavesFrame, List, NoMemory, None, Nothing, Ok, Outcome, Resend, Result, SayFault, Seen, SendEnd, Sending, SendsMore, Some, Spent, State, Stopped, SwitchFault, Taken, TakesSome, TookLast, WroteFrames, WroteGiven, WroteUpTo, [], after, after_takes, ap, append-nil, append_assoc, arith, begun, false, fault_takes, frame_of_draw, frames, frames_added, frames_behind, frames_one, frames_spent, given_index, goes_further, goes_on, goes_on_spent, inl, inr, length, length-append, map-append, most_beside, outcome, own, own_added, own_frames, own_spent, refl, replicate, state_at, stays, subst, suc, sym, takes, texts, true, under, ℕ, ◌++◌, ◌+◌, ◌∙◌, ◌∷◌, ◌≡◌, ◌≤◌, zero}
 use Rattle.gts_sender.specs.declared.end.SendEnd.TheVariants as ends
 use Rattle.gts_sender.proofs.TurnLemmas.{taken, takes_plus, state_behind, gave_nothing, frames_given, frames_no_more, gave_front}
 
