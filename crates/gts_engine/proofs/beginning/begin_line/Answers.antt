@@ -29,8 +29,8 @@ returns-clause-answered g c =
     let going = goes_cleared g.P.Station old mid c.make_room.result clears c.in_ok-make_room.was c.requires.going in
     let sound = may_sound g.P.Station c.make_room.result old mid clears c.requires.sound in
     let enters = enters_core g.P.Station event mid going sound (subst (λ (d : Directory). c.args.c < length d.circuits) (sym (may_directory g.P.Station c.make_room.result old mid clears)) c.requires.circuit)
-    c.begin_anew.new.self Nothing (λ s holds. refl) c.begin_anew.ensures mid.within in
-    λ mode. answers_untold g.P.Station mode event old mid c.make_room.result clears c.in_ok-make_room.was c.requires.going (record mid { core = c.begin_anew.new.self; within = mid.within }) Nothing enters
+    c.begin_anew.new.self Nothing (λ s holds. refl) c.begin_anew.ensures _ in
+    λ mode. answers_untold g.P.Station mode event old mid c.make_room.result clears c.in_ok-make_room.was c.requires.going _ Nothing enters
     c.tell_nothing.new.parts c.tell_nothing.ensures.rest c.tell_nothing.ensures.same c.tell_nothing.ensures.held c.tell_nothing.ensures.few
     (λ s h. none_said mode)
 
