@@ -110,7 +110,7 @@ impl fmt::Display for Handed {
         match self.round_passed() {
             Some(round) => write!(
                 f,
-                ", a round of {round} or more: the neighbour can't see it"
+                "; a round of {round} or more, which the neighbour can't see"
             ),
             None => Ok(()),
         }

@@ -81,6 +81,24 @@ fn start_of(frame: &[u8]) -> Option<&[u8]>
     Some(&message[START.len()..])
 }
 
+/// The number of three digits or of five with which the bytes begin, before a line end.
+fn number_of(bytes: &[u8]) -> Option<Numbered>
+    ensures found { IfSome result (λ found.
+        IsNumberAt (count_of found.digits) found.value bytes.now) }
+    ensures none_of_three { IfNone result ((n : ℕ) → IsNumberAt 3 n bytes.now → ⊥) }
+    ensures none_of_five { IfNone result ((n : ℕ) → IsNumberAt 5 n bytes.now → ⊥) }
+{
+    if let Some(value) = number_at(bytes, Digits::Three) {
+        let digits = Digits::Three;
+        return Some(Numbered { digits, value });
+    }
+    if let Some(value) = number_at(bytes, Digits::Five) {
+        let digits = Digits::Five;
+        return Some(Numbered { digits, value });
+    }
+    None
+}
+
 /// The sequence number that a frame carries: three digits or five, which stand behind the frame's head, SOH and a line end, and
 /// before a line end (the Manual's message format). `None` exactly where it carries none.
 pub(crate) fn number_in(frame: &[u8]) -> Option<Numbered>
@@ -90,15 +108,7 @@ pub(crate) fn number_in(frame: &[u8]) -> Option<Numbered>
     ensures none_of_five { IfNone result ((n : ℕ) → Carries frame.now 5 n → ⊥) }
 {
     let rest = start_of(frame)?;
-    if let Some(value) = number_at(rest, Digits::Three) {
-        let digits = Digits::Three;
-        return Some(Numbered { digits, value });
-    }
-    if let Some(value) = number_at(rest, Digits::Five) {
-        let digits = Digits::Five;
-        return Some(Numbered { digits, value });
-    }
-    None
+    number_of(rest)
 }
 
 /// The number that follows one: behind the greatest comes 0.

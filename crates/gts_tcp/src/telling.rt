@@ -49,12 +49,10 @@ impl fmt::Display for News {
             News::TurnedAway { caller } => write!(f, "turned away {caller}"),
             News::Failed { cause } => write!(f, "{cause}"),
             News::Reached { port } => write!(f, "output {port}: connected"),
-            News::Broke { port, handed, ago } => {
-                write!(
-                    f,
-                    "output {port}: broke, may be missing: {handed}, {ago} s ago"
-                )
-            }
+            News::Broke { port, handed, ago } => write!(
+                f,
+                "output {port}: broke; may be missing of the minute up to {ago} s ago: {handed}"
+            ),
         }
     }
 }
