@@ -26,6 +26,20 @@ fn span_of(one: Numbered, other: Numbered) -> Span {
     }
 }
 
+/// So many numbers that follow one another up to this one; where they come round, all that there are.
+fn span_up_to(last: Numbered, count: u64) -> Span {
+    let digits = last.digits;
+    let first = first_of(last, count);
+    if count < u64::from(digits.round()) && first.value <= last.value {
+        return span_of(first, last);
+    }
+    let value = digits.round() - 1;
+    Span {
+        least: Numbered { digits, value: 0 },
+        greatest: Numbered { digits, value },
+    }
+}
+
 /// Those of two.
 fn both(one: Option<Span>, other: Option<Span>) -> Option<Span> {
     match (one, other) {
@@ -67,11 +81,10 @@ impl Handed {
             (None, _) => (later.last, later.in_turn),
             (Some(_), None) => (self.last, self.in_turn),
             (Some(end), Some(last)) => {
-                let first = first_of(last, later.in_turn);
-                if first == next_of(end) {
+                if first_of(last, later.in_turn) == next_of(end) {
                     (later.last, self.in_turn.saturating_add(later.in_turn))
                 } else {
-                    others = both(others, Some(span_of(first, last)));
+                    others = both(others, Some(span_up_to(last, later.in_turn)));
                     (self.last, self.in_turn)
                 }
             }
