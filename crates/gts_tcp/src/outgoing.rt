@@ -59,8 +59,8 @@ struct Way<'a, R: Net<Listener = TcpListener, Stream = TcpStream> + Clock + Epri
     begun: Option<Instant>,
     /// What was handed to the connection that stands.
     minute: Minute,
-    /// What was handed to connections that broke, which wasn't told yet.
-    untold: Option<Handed>,
+    /// Why the last connection broke, and what was handed to those that did, where it wasn't told yet.
+    untold: Option<(io::Error, Handed)>,
     /// Tells of connections that broke.
     breaks: Teller,
 }
@@ -145,9 +145,9 @@ impl<R: Net<Listener = TcpListener, Stream = TcpStream> + Clock + Eprint> Way<'_
     /// Gives up a connection that the neighbour has ended.
     fn look(&mut self) {
         if let Some(stream) = &mut self.stream
-            && reads_an_end(stream)
+            && let Some(why) = end_of(stream)
         {
-            self.give_up();
+            self.give_up(why);
         }
     }
 
@@ -161,16 +161,17 @@ impl<R: Net<Listener = TcpListener, Stream = TcpStream> + Clock + Eprint> Way<'_
 
     /// Gives up the connection that stands, which ended or broke. What was handed to it may be missing at the neighbour, which is to
     /// be told. A run that ends breaks it itself.
-    fn give_up(&mut self) {
+    fn give_up(&mut self, why: io::Error) {
         let stood = self.stream.take().is_some();
         if !stood || goes_on(self.patience.stop).is_err() {
             return;
         }
         if let Some(handed) = self.minute.handed() {
-            self.untold = Some(match self.untold {
-                Some(before) => before.joined(handed),
+            let handed = match self.untold {
+                Some((_, before)) => before.joined(handed),
                 None => handed,
-            });
+            };
+            self.untold = Some((why, handed));
         }
         self.minute = Minute::new();
         self.tell_broken(BETWEEN_BREAKS);
@@ -178,13 +179,18 @@ impl<R: Net<Listener = TcpListener, Stream = TcpStream> + Clock + Eprint> Way<'_
 
     /// Tells the operator what was handed to connections that broke, where no other break was told within so many seconds.
     fn tell_broken(&mut self, seconds: u64) {
-        if let Some(handed) = self.untold
+        if let Some((why, handed)) = self.untold
             && self.breaks.may_tell(self.rt, seconds)
         {
             self.untold = None;
             let port = self.place.output;
             let ago = self.second().saturating_sub(handed.until());
-            let news = News::Broke { port, handed, ago };
+            let news = News::Broke {
+                port,
+                why,
+                handed,
+                ago,
+            };
             self.breaks.tell(self.rt, seconds, news);
         }
     }
@@ -230,7 +236,7 @@ impl<R: Net<Listener = TcpListener, Stream = TcpStream> + Clock + Eprint> Way<'_
             self.has_handed(piece);
             return Ok(());
         };
-        self.give_up();
+        self.give_up(last.error);
         let mut pauses = Pauses::new();
         for _ in 0..self.patience.tries.map_or(u64::MAX, u64::from) {
             match self.write_anew(piece) {
@@ -300,8 +306,8 @@ impl<R: Net<Listener = TcpListener, Stream = TcpStream> + Clock + Eprint> Way<'_
         if quiet < third {
             return Some((third - quiet).min(A_SECOND));
         }
-        if self.write_whole(KEEP_ALIVE).is_err() {
-            self.give_up();
+        if let Err(why) = self.write_whole(KEEP_ALIVE) {
+            self.give_up(why);
             return None;
         }
         Some(third.min(A_SECOND))
@@ -397,8 +403,8 @@ fn write_on<'a>(
             }
             // A neighbour that answers at length reads no further until its answers are read.
             Err(error) if has_waited(&error) => {
-                if reads_an_end(stream) {
-                    return Err(not_connected());
+                if let Some(why) = end_of(stream) {
+                    return Err(why);
                 }
                 waits = waits.saturating_add(1);
             }
@@ -423,18 +429,19 @@ fn milliseconds_of(time: Duration) -> u32 {
     u32::try_from(time.as_millis()).unwrap_or(u32::MAX)
 }
 
-/// Whether the neighbour has ended a connection, which doesn't wait, or it broke. What the neighbour sends on it is read away, and is
-/// no end.
-fn reads_an_end(stream: &mut TcpStream) -> bool {
+/// Why a connection, which doesn't wait, has come to its end: the neighbour has ended it, or it broke. What the neighbour sends on it is
+/// read away, and is no end.
+fn end_of(stream: &mut TcpStream) -> Option<io::Error> {
     let mut piece = [0u8; BYTES_A_LOOK];
     for _ in 0..MOST_LOOKS {
         match stream.read(&mut piece) {
-            Ok(0) => return true,
+            Ok(0) => return Some(io::Error::from(ErrorKind::ConnectionAborted)),
             Ok(_) => {}
-            Err(error) => return !has_waited(&error),
+            Err(error) if has_waited(&error) => return None,
+            Err(error) => return Some(error),
         }
     }
-    false
+    None
 }
 
 /// The connections that a circuit's bytes go out on, one after another. They tell no bytes. Each piece is taken whole, and

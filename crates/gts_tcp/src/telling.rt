@@ -1,8 +1,8 @@
 use crate::LineCause;
 use crate::handed::Handed;
-use std::fmt;
 use std::net::IpAddr;
 use std::time::{Clock, Instant};
+use std::{fmt, io};
 
 /// For how many seconds a circuit tells of no further caller that it turns away, once it has told of one, and of no further failure
 /// of a line; and for how many a neighbour may take at most to end its side of a connection.
@@ -36,6 +36,8 @@ pub(crate) enum News {
     Broke {
         /// The neighbour's port.
         port: u16,
+        /// Why.
+        why: io::Error,
         /// What was handed to it in the minute up to its last frame, which may be missing there.
         handed: Handed,
         /// How many seconds ago that was.
@@ -49,9 +51,14 @@ impl fmt::Display for News {
             News::TurnedAway { caller } => write!(f, "turned away {caller}"),
             News::Failed { cause } => write!(f, "{cause}"),
             News::Reached { port } => write!(f, "output {port}: connected"),
-            News::Broke { port, handed, ago } => write!(
+            News::Broke {
+                port,
+                why,
+                handed,
+                ago,
+            } => write!(
                 f,
-                "output {port}: broke; may be missing of the minute up to {ago} s ago: {handed}"
+                "output {port}: broke: {why}; may be missing of the minute up to {ago} s ago: {handed}"
             ),
         }
     }
