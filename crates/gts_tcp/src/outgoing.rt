@@ -159,14 +159,16 @@ impl<R: Net<Listener = TcpListener, Stream = TcpStream> + Clock + Eprint> Way<'_
         }
     }
 
-    /// Gives up the connection that stands, which ended or broke. What was handed to it may be missing at the neighbour, which is to
-    /// be told. A run that ends breaks it itself.
+    /// Gives up the connection that stands, which ended or broke. What was handed to it may be missing at the neighbour, which a service
+    /// tells. A run that ends breaks it itself.
     fn give_up(&mut self, why: io::Error) {
         let stood = self.stream.take().is_some();
         if !stood || goes_on(self.patience.stop).is_err() {
             return;
         }
-        if let Some(handed) = self.minute.handed() {
+        if self.patience.tries.is_none()
+            && let Some(handed) = self.minute.handed()
+        {
             let handed = match self.untold {
                 Some((_, before)) => before.joined(handed),
                 None => handed,
@@ -283,6 +285,14 @@ impl<R: Net<Listener = TcpListener, Stream = TcpStream> + Clock + Eprint> Way<'_
         }
     }
 
+    /// When the sink wants to be asked again where no connection stands: in a second while a break wasn't told yet, else never.
+    fn asked_again(&self) -> Option<u32> {
+        match self.untold {
+            Some(_) => Some(A_SECOND),
+            None => None,
+        }
+    }
+
     /// Nothing is due, and on a closed circuit nothing ever is. Where no connection has stood yet, the port is tried once. On one that
     /// stands, what the neighbour sends is read away once a second, and where nothing was written for a third of the circuit's `idle`
     /// seconds, a keep-alive is; a connection that has ended, or doesn't take it, is given up.
@@ -296,7 +306,7 @@ impl<R: Net<Listener = TcpListener, Stream = TcpStream> + Clock + Eprint> Way<'_
         self.tell_broken(BETWEEN_BREAKS);
         self.look();
         if self.stream.is_none() {
-            return None;
+            return self.asked_again();
         }
         let Some(idle) = self.place.idle else {
             return Some(A_SECOND);
@@ -308,7 +318,7 @@ impl<R: Net<Listener = TcpListener, Stream = TcpStream> + Clock + Eprint> Way<'_
         }
         if let Err(why) = self.write_whole(KEEP_ALIVE) {
             self.give_up(why);
-            return None;
+            return self.asked_again();
         }
         Some(third.min(A_SECOND))
     }
