@@ -155,7 +155,7 @@ impl Second {
 
 /// What was handed to a connection in the minute up to its last frame, second by second.
 #[derive(Clone, Copy, Drop)]
-pub(crate) struct Minute {
+pub(crate) struct LastMinute {
     seconds: [Second; SECONDS as usize],
     /// The second of the last frame.
     newest: u64,
@@ -164,10 +164,10 @@ pub(crate) struct Minute {
     last_at: u64,
 }
 
-impl Minute {
+impl LastMinute {
     /// Nothing was handed.
-    pub(crate) fn new() -> Minute {
-        Minute {
+    pub(crate) fn new() -> LastMinute {
+        LastMinute {
             seconds: [Second::new(0); SECONDS as usize],
             newest: 0,
             last: None,

@@ -2,7 +2,7 @@ ghost use Rattle.std.specs.Prelude.{◌≡◌, ◌≤◌, [], length, IfOk};
 
 use crate::cause::{named, note};
 use crate::dialing::{LONGEST_TRY, dial_once};
-use crate::handed::{Handed, Minute};
+use crate::handed::{Handed, LastMinute};
 use crate::incoming::not_connected;
 use crate::lines::is_closed;
 use crate::pausing::Pauses;
@@ -58,7 +58,7 @@ struct Way<'a, R: Net<Listener = TcpListener, Stream = TcpStream> + Clock + Epri
     /// The moment from which its seconds are counted.
     begun: Option<Instant>,
     /// What was handed to the connection that stands.
-    minute: Minute,
+    minute: LastMinute,
     /// Why the last connection broke, and what was handed to those that did, where it wasn't told yet.
     untold: Option<(io::Error, Handed)>,
     /// Tells of connections that broke.
@@ -175,7 +175,7 @@ impl<R: Net<Listener = TcpListener, Stream = TcpStream> + Clock + Eprint> Way<'_
             };
             self.untold = Some((why, handed));
         }
-        self.minute = Minute::new();
+        self.minute = LastMinute::new();
         self.tell_broken(BETWEEN_BREAKS);
     }
 
@@ -480,7 +480,7 @@ impl<'a, R: Net<Listener = TcpListener, Stream = TcpStream> + Clock + Eprint> Tc
             written: None,
             teller: Teller::new(circuit),
             begun: Instant::now(rt).ok(),
-            minute: Minute::new(),
+            minute: LastMinute::new(),
             untold: None,
             breaks: Teller::new(circuit),
         };
