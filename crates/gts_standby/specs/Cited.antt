@@ -7,8 +7,8 @@ pub use Rattle.gts_standby.specs.Ahead.{InFeed}
 pub use Rattle.gts_standby.specs.Taking.{Bad, Behind, Breaks, Broken, Cut, End, Ends, Parts, Piece, Reached, Sealed, Short, Taken, add_all, adding, and_then, begin_first, begin_with, behind_all, behind_checkpoint, behind_counted, behind_front, behind_one, by_header, by_piece, checkpoint_by, checkpoint_piece, checkpoint_seals, compare_all, compare_first, compared, first_piece, is_behind, is_checkpoint_fed}
 pub use Rattle.gts_standby.specs.Taking.{is_further, is_other_first, may_be_cut, may_begin, or_anew, reach, reach_found, record_piece, rest_of, seals_at, seals_behind, stopped, take_records, taken, unsealed}
 pub use Rattle.gts_standby.specs.Following.{AddsAllOf, Answers, AsBefore, EachImageReads, EachOpens, EndsAs, IsEnd, KeepsAllOf, LeavesAlone, LeavesFronts, LeavesUnopened, OpensWithin, ReadsToOneOf, WithFront, comes_to, open_end, own_seals, read_after, read_anew, read_at, read_begun, read_behind, start_of, state_after}
-pub use Rattle.gts_standby.specs.Reading.{FindsPiece, HasRead, IsFedEnd, IsLater, IsReadEnd, IsUnsealed, KeepsOther, ReadsAll, StopsAs, StopsAt, TakesHeader, is_other, unread}
-pub use Rattle.gts_standby.specs.Gathering.{Brings, CanGather, GathersNext, GathersNone, HasBrought, HasGatheredOne, HoldsBehind, IsFinished, IsGathered, IsGathering, MayBring, MayHaveBrought, StandsBehind, gate_behind, read_with}
+pub use Rattle.gts_standby.specs.Reading.{FindsPiece, HasRead, IsFedEnd, IsLater, IsReadEnd, IsUnsealed, KeepsOther, ReadsAll, StopsAs, StopsAt, TakesHeader, has_record, is_other, tells_next, unread}
+pub use Rattle.gts_standby.specs.Gathering.{Brings, CanGather, GathersNext, GathersNone, HasBrought, HasGatheredOne, HoldsBehind, IsFinished, IsGathered, IsGathering, IsReadyEnd, IsSettled, MayBring, MayHaveBrought, StandsBehind, gate_behind, read_with}
 pub use Rattle.gts_standby.specs.Adding.{AddsAll, HasAdded, HoldsAt, IsAddEnd}
 pub use Rattle.gts_standby.specs.Comparing.{Compares, ComparesAll, ComparesFirstOfAny, ComparesNext, ComparesRest, HasCompared, IsAtSeals, IsBehindOne, IsDevice, IsOwnEnd, Leads, OwnGoesOn, seals_here}
 pub use Rattle.gts_standby.specs.Beginning.{BeforeIt, BeginsAny, EndsBegin, HasBegun, IsPutEnd, MayBegin, WithinIt, begun_taken}
