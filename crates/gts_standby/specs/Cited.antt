@@ -13,7 +13,7 @@ pub use Rattle.gts_standby.specs.Adding.{AddsAll, HasAdded, HoldsAt, IsAddEnd}
 pub use Rattle.gts_standby.specs.Comparing.{Compares, ComparesAll, ComparesFirstOfAny, ComparesNext, ComparesRest, HasCompared, IsAtSeals, IsBehindOne, IsDevice, IsOwnEnd, Leads, OwnGoesOn, seals_here}
 pub use Rattle.gts_standby.specs.Beginning.{BeforeIt, BeginsAny, EndsBegin, HasBegun, IsPutEnd, MayBegin, WithinIt, begun_taken}
 pub use Rattle.gts_standby.specs.Whole.{FindsFurther, HasTaken, IsNamedEnd, IsTakenEnd, IsWhole, StaysWhole, TakesCheckpoint, TakesFirst, TakesOther, TakesRecords}
-pub use Rattle.gts_standby.specs.Fronts.{AddsFront, AddsNothing, AddsPart, FeedBrings, HasNoRecord, HasPlainPart, IsFeedOf, IsOvertaken, IsPlainFeed, LeadsTo, nothing_read, state_of}
+pub use Rattle.gts_standby.specs.Fronts.{AddsFront, AddsNothing, AddsPart, FeedBrings, HasNoRecord, HasPart, IsFeedOf, IsOvertaken, IsPlainFeed, LeadsTo, nothing_read, state_of}
 pub use Rattle.gts_standby.specs.Between.{AreOneBySeal, IsFoundBehind, StandsFed, records_fed, seal_behind}
 pub use Rattle.gts_standby.specs.Counts.{AsksBoth, AsksFeed, AsksToShip, GoesOn, HasDiskCounts, HasEndCounts, IsStill, PassesNext}
 pub use Rattle.gts_standby.specs.declared.end.FollowEnd.{FollowEnd}
