@@ -1,0 +1,4 @@
+mod Cited
+mod FirstLemmas
+mod RuleLemmas
+mod OrderLemmas
