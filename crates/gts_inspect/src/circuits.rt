@@ -1,11 +1,11 @@
-//! What is odd of a circuit beside its ports.
+//! What is odd of a circuit beside its ports and rules.
 
-ghost use Rattle.std.specs.Prelude.{◌≡◌, ◌<◌, map, length};
-ghost use Rattle.gts_inspect.specs.Cited.{MOST_CIRCUITS, circuit_of_row, rule_of_row};
+ghost use Rattle.std.specs.Prelude.{◌≡◌, map};
+ghost use Rattle.gts_inspect.specs.Cited.{circuit_of_row, first};
 ghost use Rattle.gts_inspect.specs.Findings as findings;
 
 use crate::Finding;
-use gts_directory::{CircuitRow, MOST_KEPT, RuleRow};
+use gts_directory::{CircuitRow, MOST_KEPT};
 
 /// A circuit's neighbour is the own centre.
 pub(crate) fn own_peer(centre: [u8; 4], circuit: usize, row: &CircuitRow) -> Option<Finding>
@@ -15,6 +15,14 @@ pub(crate) fn own_peer(centre: [u8; 4], circuit: usize, row: &CircuitRow) -> Opt
         return Some(Finding::OwnPeer { circuit });
     }
     None
+}
+
+/// The first of some circuits with the same neighbour.
+fn first_peer(before: &[CircuitRow], row: &CircuitRow) -> Option<usize>
+    ensures { result ≡ first (λ other.
+        findings.has_peer (circuit_of_row row.now) (circuit_of_row other)) before.now }
+{
+    before.iter().position(|other| other.peer == row.peer)
 }
 
 /// The first of the circuits before this one with the same neighbour.
@@ -27,7 +35,7 @@ pub(crate) fn peer_twice(
     ensures { result ≡ findings.peer_twice (map circuit_of_row before.now) circuit
         (circuit_of_row row.now) }
 {
-    let earlier = before.iter().position(|other| other.peer == row.peer)?;
+    let earlier = first_peer(before, row)?;
     Some(Finding::PeerTwice { circuit, earlier })
 }
 

@@ -1,5 +1,5 @@
-ghost use Rattle.std.specs.Prelude.{◌≡◌, ◌++◌, ◌≤◌, length, map, take, IfOk, OnOk};
-ghost use Rattle.gts_inspect.specs.Cited.{AreRulesOf, MOST_CIRCUITS, circuit_of_row, rule_of_row};
+ghost use Rattle.std.specs.Prelude.{◌≡◌, ◌++◌, ◌<◌, [], ◌∷◌, length, map, IfOk, OnOk};
+ghost use Rattle.gts_inspect.specs.Cited.{AreRulesOf, circuit_of_row, rule_of_row};
 ghost use Rattle.gts_inspect.specs.Findings as findings;
 
 use crate::circuits::{few_kept, own_peer, peer_twice};
@@ -19,14 +19,22 @@ const OF_CIRCUIT: usize = 14;
 /// How many things are looked for of a rule.
 const OF_RULE: usize = 3;
 
+/// Adds a finding, where it is there.
+fn add_look(found: &mut Vec<Finding>, look: Option<Finding>) -> Result<(), NoMemory>
+    ensures { OnOk result (found.new.items ≡ found.old.items ++ findings.told (look ∷ [])) }
+{
+    if let Some(finding) = look {
+        found.push(finding)?;
+    }
+    Ok(())
+}
+
 /// Adds the findings that are there.
 fn add_told(found: &mut Vec<Finding>, looked: &[Option<Finding>]) -> Result<(), NoMemory>
     ensures { OnOk result (found.new.items ≡ found.old.items ++ findings.told looked.now) }
 {
     for look in looked {
-        if let Some(finding) = *look {
-            found.push(finding)?;
-        }
+        add_look(found, *look)?;
     }
     Ok(())
 }
@@ -83,7 +91,7 @@ fn of_circuit(
         output_twice(before, circuit, row),
         same_ports(circuit, row),
         calls_itself(directory.address(), circuits, circuit, row),
-        no_rule(circuits.len(), rules, circuit, row),
+        no_rule(directory, rules, circuit, row),
     ]
 }
 
@@ -99,11 +107,10 @@ fn of_rule(
     ensures { result ≡ findings.of_rule directory.now rule
         (rule_of_row (length directory.now.circuits) row.now) }
 {
-    let count = directory.circuits() as usize;
     [
-        no_circuit(count, rule, row),
-        rule_twice(count, &rules[..rule], rule, row),
-        rule_covered(count, rules, rule, row),
+        no_circuit(directory, rule, row),
+        rule_twice(directory, &rules[..rule], rule, row),
+        rule_covered(directory, rules, rule, row),
     ]
 }
 

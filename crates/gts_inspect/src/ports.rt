@@ -59,6 +59,14 @@ fn listens_too(row: &CircuitRow, other: &CircuitRow) -> bool
     !row.closed && !other.closed && 1 <= row.input && other.input == row.input
 }
 
+/// The first of some circuits for which the switch listens on the same port.
+fn first_input(before: &[CircuitRow], row: &CircuitRow) -> Option<usize>
+    ensures { result ≡ first (λ other.
+        findings.listens_too (circuit_of_row row.now) (circuit_of_row other)) before.now }
+{
+    before.iter().position(|other| listens_too(row, other))
+}
+
 /// The first of the circuits before this one with the same input.
 #[tactic(auto, using(crate::proofs::FirstLemmas::position_from_map))]
 pub(crate) fn input_twice(
@@ -69,7 +77,7 @@ pub(crate) fn input_twice(
     ensures { result ≡ findings.input_twice (map circuit_of_row before.now) circuit
         (circuit_of_row row.now) }
 {
-    let earlier = before.iter().position(|other| listens_too(row, other))?;
+    let earlier = first_input(before, row)?;
     Some(Finding::InputTwice { circuit, earlier })
 }
 
@@ -84,6 +92,14 @@ fn calls_too(row: &CircuitRow, other: &CircuitRow) -> bool
         && other.host.octets() == row.host.octets()
 }
 
+/// The first of some circuits whose neighbours listen on the same port of the same host.
+fn first_output(before: &[CircuitRow], row: &CircuitRow) -> Option<usize>
+    ensures { result ≡ first (λ other.
+        findings.calls_too (circuit_of_row row.now) (circuit_of_row other)) before.now }
+{
+    before.iter().position(|other| calls_too(row, other))
+}
+
 /// The first of the circuits before this one with the same output at the same host.
 #[tactic(auto, using(crate::proofs::FirstLemmas::position_from_map))]
 pub(crate) fn output_twice(
@@ -94,7 +110,7 @@ pub(crate) fn output_twice(
     ensures { result ≡ findings.output_twice (map circuit_of_row before.now) circuit
         (circuit_of_row row.now) }
 {
-    let earlier = before.iter().position(|other| calls_too(row, other))?;
+    let earlier = first_output(before, row)?;
     Some(Finding::OutputTwice { circuit, earlier })
 }
 
@@ -121,6 +137,16 @@ fn is_called(address: Ipv4Addr, row: &CircuitRow, other: &CircuitRow) -> bool
         && row.host.octets() == address.octets()
 }
 
+/// The first of some circuits that this one calls.
+fn first_called(address: Ipv4Addr, circuits: &[CircuitRow], row: &CircuitRow) -> Option<usize>
+    ensures { result ≡ first (λ other. findings.is_called address
+        (circuit_of_row row.now) (circuit_of_row other)) circuits.now }
+{
+    circuits
+        .iter()
+        .position(|other| is_called(address, row, other))
+}
+
 /// The first of the circuits whose input this one calls at the switch's own address.
 #[tactic(auto, using(crate::proofs::FirstLemmas::position_from_map))]
 pub(crate) fn calls_itself(
@@ -132,8 +158,6 @@ pub(crate) fn calls_itself(
     ensures { result ≡ findings.calls_itself address (map circuit_of_row circuits.now) circuit
         (circuit_of_row row.now) }
 {
-    let called = circuits
-        .iter()
-        .position(|other| is_called(address, row, other))?;
+    let called = first_called(address, circuits, row)?;
     Some(Finding::CallsItself { circuit, called })
 }
