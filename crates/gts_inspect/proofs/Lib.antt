@@ -2,3 +2,4 @@ mod Cited
 mod FirstLemmas
 mod RuleLemmas
 mod OrderLemmas
+mod RouteLemmas

@@ -1,2 +1,3 @@
 pub mod Findings
+pub mod Routing
 pub mod Cited
