@@ -1,5 +1,5 @@
 -- Where a bulletin goes, one circuit or one rule more.
-use Rattle.gts_inspect.proofs.Cited.{◌≡◌, ◌+◌, ◌++◌, ◌<◌, ◌≤◌, ◌==◌, ◌&&◌, ◌||◌, ℕ, suc, zero, Bool, true, false, cond, List, [], ◌∷◌, filter, length, map, refl, sym, ap, ◌∙◌, append_assoc, append-nil, arith, AreRulesOf, Directory, HeadingFields, RuleRow, bit, bit_at, filter_of_map_range_with_len_more, is_named, is_reached, list_any, map-id, mask_of, matches, named, names, places, range_with_len, rule_of_row}
+use Rattle.gts_inspect.proofs.Cited.{◌≡◌, ◌+◌, ◌++◌, ◌<◌, ◌≤◌, ◌==◌, ◌&&◌, ◌||◌, ℕ, get_or, length-take-le, take, take_more, suc, zero, Bool, true, false, cond, List, [], ◌∷◌, filter, length, map, refl, sym, ap, ◌∙◌, append_assoc, append-nil, arith, AreRulesOf, Directory, HeadingFields, RuleRow, bit, bit_at, filter_of_map_range_with_len_more, is_named, is_reached, list_any, map-id, mask_of, matches, named, names, places, range_with_len, rule_of_row}
 use Rattle.gts_inspect.proofs.RuleLemmas.{names_is}
 
 -- one number more that may pass a test
@@ -67,3 +67,12 @@ pub reached_is : (d : Directory) (c : ℕ) (h : HeadingFields) (rows : List Rule
     → list_any (λ row. matches row.heading h && (bit_at row.to c == 1)) rows ≡ is_reached d h c
 reached_is d c h rows within are =
     reached_by_rows (length d.circuits) c h rows within ∙ ap (list_any (λ rule. matches rule.heading h && names c rule)) are.same
+
+-- one row more of those that the code has
+pub places_next : {A : Type 0} (test : A → Bool) (rows : List A) (k : ℕ) (row : A) → k < length rows → row ≡ get_or rows k row
+    → places test 0 (take k rows) ++ cond (test row) (k ∷ []) [] ≡ places test 0 (take (k + 1) rows)
+places_next {A} test rows k row within is =
+    let front = take k rows in
+    let more : take (k + 1) rows ≡ front ++ row ∷ [] = take_more rows k row within ∙ ap (λ (r : A). front ++ r ∷ []) (sym is) in
+    let few : length front ≡ k = length-take-le k rows (omega (arith, within)) in
+    sym (ap (places test 0) more ∙ places_more test 0 k front row (omega (arith, few)))

@@ -21,10 +21,14 @@ abbrev pub circuits_from : Directory → HeadingFields → Option ℕ → List �
 circuits_from d h None = reached d h
 circuits_from d h (Some from) = named d from h
 
+-- a number, where something is so
+abbrev pub where_holds : Bool → ℕ → List ℕ
+where_holds holds n = if holds then n ∷ [] else []
+
 -- the places of the rows that pass a test, where they count from n
 abbrev pub places : {A : Type 0} → (A → Bool) → ℕ → List A → List ℕ
 places test n [] = []
-places test n (row ∷ rows) = (if test row then n ∷ [] else []) ++ places test (n + 1) rows
+places test n (row ∷ rows) = where_holds (test row) n ++ places test (n + 1) rows
 
 -- the rules that match
 abbrev pub matching : Directory → HeadingFields → List ℕ

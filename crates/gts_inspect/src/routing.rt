@@ -1,5 +1,5 @@
-ghost use Rattle.std.specs.Prelude.{◌≡◌, ◌==◌, ◌<◌, length, map, IfOk};
-ghost use Rattle.gts_inspect.specs.Cited.{AreRulesOf, MOST_CIRCUITS, bit_at, fields_of, filter, level_of, matches as matches_with, named, range_with_len, rule_of_row};
+ghost use Rattle.std.specs.Prelude.{◌≡◌, ◌==◌, ◌<◌, ◌++◌, length, IfOk, OnOk};
+ghost use Rattle.gts_inspect.specs.Cited.{AreRulesOf, bit_at, fields_of, filter, level_of, matches as matches_with, named, range_with_len};
 ghost use Rattle.gts_inspect.specs.Routing as routing;
 
 use crate::patterns::agrees;
@@ -20,14 +20,26 @@ pub struct Route {
     pub rules: Vec<usize>,
 }
 
+/// Adds a number, where something is so.
+fn add_where(numbers: &mut Vec<usize>, holds: bool, number: usize) -> Result<(), NoMemory>
+    ensures { OnOk result
+        (numbers.new.items ≡ numbers.old.items ++ routing.where_holds holds number) }
+{
+    if holds {
+        numbers.push(number)?;
+    }
+    Ok(())
+}
+
 /// Whether a rule's pattern matches a heading.
 fn matches(pattern: &[u8; 11], heading: &Heading) -> bool
     ensures { result ≡ matches_with pattern.now (fields_of heading.now) }
 {
-    agrees(&pattern[..2], &heading.tt)
-        && agrees(&pattern[2..4], &heading.aa)
-        && agrees(&pattern[4..6], &digits_of::<2>(u32::from(heading.ii)))
-        && agrees(&pattern[7..], &heading.cccc)
+    let of_type = agrees(&pattern[..2], &heading.tt);
+    let of_area = agrees(&pattern[2..4], &heading.aa);
+    let of_number = agrees(&pattern[4..6], &digits_of::<2>(u32::from(heading.ii)));
+    let of_centre = agrees(&pattern[7..], &heading.cccc);
+    of_type & of_area & of_number & of_centre
 }
 
 /// Whether a rule that matches names a circuit.
@@ -62,9 +74,8 @@ fn reached(
 {
     let mut circuits = Vec::new(alloc);
     for circuit in 0..directory.circuits() as usize {
-        if is_reached(directory, rules, heading, circuit) {
-            circuits.push(circuit)?;
-        }
+        let reached = is_reached(directory, rules, heading, circuit);
+        add_where(&mut circuits, reached, circuit)?;
     }
     Ok(circuits)
 }
@@ -81,9 +92,7 @@ fn circuits_of(
     directory.bounds_hold();
     let mut circuits = Vec::new(alloc);
     for circuit in 0..directory.circuits() as usize {
-        if set.has(circuit) {
-            circuits.push(circuit)?;
-        }
+        add_where(&mut circuits, set.has(circuit), circuit)?;
     }
     Ok(circuits)
 }
@@ -114,16 +123,14 @@ fn matching(
 {
     let mut places = Vec::new(alloc);
     for (place, rule) in rules.iter().enumerate() {
-        if matches(&rule.heading, heading) {
-            places.push(place)?;
-        }
+        add_where(&mut places, matches(&rule.heading, heading), place)?;
     }
     Ok(places)
 }
 
 /// Where a bulletin with this heading would go that came in on a circuit, at which level, and which rules match it. Without a circuit
 /// it is as one that came from elsewhere: it goes to each circuit that one of these rules names.
-pub fn route(
+pub fn route_of(
     alloc: Global,
     file: &DirectoryFile,
     heading: &Heading,
