@@ -1,5 +1,5 @@
 -- Which circuits a rule names, by the bits of its row.
-use Rattle.gts_inspect.proofs.Cited.{◌≡◌, ◌+◌, ◌++◌, ◌<◌, ◌≤◌, ◌==◌, ◌&&◌, ◌||◌, ℕ, zero, suc, Bool, true, false, cond, List, [], ◌∷◌, map, filter, refl, sym, ap, ◌∙◌, arith, RuleRow, bit_at, circuits_in, list_all, list_all-append, list_any, list_any-append, map-id, map-range_with_len_more, names, range_with_len, rule_of_row, cases_eq, common_steps, nat_tests}
+use Rattle.gts_inspect.proofs.Cited.{◌≡◌, ◌+◌, ◌++◌, ◌<◌, ◌≤◌, ◌==◌, ◌&&◌, ◌||◌, ℕ, zero, suc, Bool, true, false, List, [], ◌∷◌, map, filter, refl, sym, ap, ◌∙◌, arith, RuleRow, bit_at, list_all, list_all-append, list_any, list_any-append, map-id, map-range_with_len_more, names, range_with_len, rule_of_row, cases_eq, common_steps, nat_tests}
 
 -- a number is among those of some that pass a test
 among_passed : (test : ℕ → Bool) (c : ℕ) (xs : List ℕ) → list_any (λ to. to == c) (filter test xs) ≡ (test c && list_any (λ to. to == c) xs)

@@ -27,11 +27,7 @@ fn first_peer(before: &[CircuitRow], row: &CircuitRow) -> Option<usize>
 
 /// The first of the circuits before this one with the same neighbour.
 #[tactic(auto, using(crate::proofs::FirstLemmas::position_from_map))]
-pub(crate) fn peer_twice(
-    before: &[CircuitRow],
-    circuit: usize,
-    row: &CircuitRow,
-) -> Option<Finding>
+pub(crate) fn peer_twice(before: &[CircuitRow], circuit: usize, row: &CircuitRow) -> Option<Finding>
     ensures { result ≡ findings.peer_twice (map circuit_of_row before.now) circuit
         (circuit_of_row row.now) }
 {

@@ -13,6 +13,6 @@ mod text;
 
 pub use finding::{Finding, Key};
 pub use inspection::inspect;
+pub use limits::{FIRST_FREE_PORT, FIRST_SYSTEM_PORT, LAST_SYSTEM_PORT, limits_are_these_numbers};
 pub use routing::{Route, route_of};
 pub use text::{heading_of, inspection_text, route_text};
-pub use limits::{FIRST_FREE_PORT, FIRST_SYSTEM_PORT, LAST_SYSTEM_PORT, limits_are_these_numbers};

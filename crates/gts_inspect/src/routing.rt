@@ -43,12 +43,7 @@ fn matches(pattern: &[u8; 11], heading: &Heading) -> bool
 }
 
 /// Whether a rule that matches names a circuit.
-fn is_reached(
-    directory: &Directory,
-    rules: &[RuleRow],
-    heading: &Heading,
-    circuit: usize,
-) -> bool
+fn is_reached(directory: &Directory, rules: &[RuleRow], heading: &Heading, circuit: usize) -> bool
     requires there { circuit < length directory.now.circuits }
     requires rules { AreRulesOf rules.now directory.now }
     ensures { result ≡ routing.is_reached directory.now (fields_of heading.now) circuit }
@@ -113,11 +108,7 @@ fn named_from(
 }
 
 /// The rules that match a heading.
-fn matching(
-    alloc: Global,
-    rules: &[RuleRow],
-    heading: &Heading,
-) -> Result<Vec<usize>, NoMemory>
+fn matching(alloc: Global, rules: &[RuleRow], heading: &Heading) -> Result<Vec<usize>, NoMemory>
     ensures { IfOk result (λ places. places.items
         ≡ routing.places (λ rule. matches_with rule.heading (fields_of heading.now)) 0 rules.now) }
 {

@@ -95,7 +95,9 @@ fn first_same(directory: &Directory, before: &[RuleRow], row: &RuleRow) -> Optio
     ensures { result ≡ first (λ other. findings.says_too (length directory.now.circuits)
         (rule_of_row (length directory.now.circuits) row.now) (rule_of_row (length directory.now.circuits) other)) before.now }
 {
-    before.iter().position(|other| says_too(directory, row, other))
+    before
+        .iter()
+        .position(|other| says_too(directory, row, other))
 }
 
 /// The first of the rules before this one that says the same.
@@ -126,7 +128,9 @@ fn first_more(directory: &Directory, rules: &[RuleRow], row: &RuleRow) -> Option
     ensures { result ≡ first (λ other. findings.says_more (length directory.now.circuits)
         (rule_of_row (length directory.now.circuits) row.now) (rule_of_row (length directory.now.circuits) other)) rules.now }
 {
-    rules.iter().position(|other| says_more(directory, row, other))
+    rules
+        .iter()
+        .position(|other| says_more(directory, row, other))
 }
 
 /// The first of the rules that says all that this one says, and more.

@@ -33,11 +33,7 @@ fn add_number(text: &mut Vec<u8>, number: u64) -> Result<(), NoMemory> {
 }
 
 /// Adds a circuit by its number and its name: `circuit 01 GRENADA`.
-fn add_circuit(
-    text: &mut Vec<u8>,
-    directory: &Directory,
-    circuit: usize,
-) -> Result<(), NoMemory> {
+fn add_circuit(text: &mut Vec<u8>, directory: &Directory, circuit: usize) -> Result<(), NoMemory> {
     if circuit >= directory.circuits() as usize {
         return Ok(());
     }
@@ -208,11 +204,7 @@ fn add_odd_rule(
 }
 
 /// Adds the line of a finding.
-fn add_finding(
-    text: &mut Vec<u8>,
-    file: &DirectoryFile,
-    finding: Finding,
-) -> Result<(), NoMemory> {
+fn add_finding(text: &mut Vec<u8>, file: &DirectoryFile, finding: Finding) -> Result<(), NoMemory> {
     add(text, b"odd ")?;
     add_row(text, file.directory(), finding)?;
     add_odd_port(text, file.directory(), finding)?;
@@ -256,11 +248,7 @@ fn add_circuits(
 }
 
 /// Adds a line for each rule of a route.
-fn add_rules(
-    text: &mut Vec<u8>,
-    file: &DirectoryFile,
-    rules: &[usize],
-) -> Result<(), NoMemory> {
+fn add_rules(text: &mut Vec<u8>, file: &DirectoryFile, rules: &[usize]) -> Result<(), NoMemory> {
     for rule in rules {
         add_rule(text, file, *rule)?;
         add(text, b"\n")?;

@@ -1,4 +1,4 @@
-use Rattle.gts_inspect.proofs.Cited.{◌≡◌, ◌++◌, [], ℕ, List, None, false, map, told, ap, refl, ◌∙◌, get_or, CircuitRow, circuit_of_row, of_circuit}
+use Rattle.gts_inspect.proofs.Cited.{◌++◌, [], ℕ, List, None, false, told, ap, refl, ◌∙◌, get_or, CircuitRow, circuit_of_row, of_circuit}
 use Rattle.gts_inspect.specs.declared.finding.Finding.{Finding}
 use Rattle.gts_inspect.proofs.OrderLemmas.{rows_more}
 use Rattle.gts_inspect.proofs.inspection.add_circuits.Goals as goal

@@ -1,4 +1,4 @@
-use Rattle.gts_inspect.proofs.Cited.{◌≡◌, ◌++◌, ◌+◌, ◌∷◌, [], ℕ, List, arith, length, map, take, told, ap, sym, ◌∙◌, append_assoc, map-append, take_more, in_order, of_rule, rule_of_row, RuleRow}
+use Rattle.gts_inspect.proofs.Cited.{◌++◌, ℕ, List, length, told, ap, ◌∙◌, of_rule, rule_of_row, RuleRow}
 use Rattle.gts_inspect.specs.declared.finding.Finding.{Finding}
 use Rattle.gts_directory.specs.Directory as directory
 use Rattle.gts_inspect.proofs.OrderLemmas.{rows_more}

@@ -1,4 +1,4 @@
-use Rattle.gts_inspect.proofs.Cited.{◌≡◌, ◌++◌, ◌+◌, ◌∷◌, [], ℕ, List, arith, map, take, ap, sym, ◌∙◌, map-append, take_more, get_or_from_slice_get, slice_get_within, circuit_of_row}
+use Rattle.gts_inspect.proofs.Cited.{◌≡◌, ◌++◌, ◌+◌, ◌∷◌, [], ℕ, List, arith, map, take, ap, sym, ◌∙◌, map-append, take_more, get_or_from_slice_get, circuit_of_row}
 use Rattle.gts_directory.specs.Directory as directory
 use Rattle.gts_inspect.proofs.inspection.circuit_rows.Goals as goal
 

@@ -1,4 +1,4 @@
-use Rattle.gts_inspect.proofs.Cited.{◌≡◌, ℕ, List, length, map, take, ap, refl, sym, ◌∙◌, take-map, Ipv4Addr, calls_itself, circuit_of_row, input_twice, no_rule, output_twice, own_peer, peer_twice}
+use Rattle.gts_inspect.proofs.Cited.{◌≡◌, ℕ, List, map, take, ap, refl, sym, ◌∙◌, take-map, Ipv4Addr, calls_itself, circuit_of_row, input_twice, no_rule, output_twice, own_peer, peer_twice}
 use Rattle.gts_directory.specs.Directory as directory
 use Rattle.gts_inspect.proofs.inspection.of_circuit.Goals as goal
 

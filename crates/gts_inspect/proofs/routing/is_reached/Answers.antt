@@ -1,4 +1,4 @@
-use Rattle.gts_inspect.proofs.Cited.{◌≡◌, ◌==◌, ◌&&◌, ◌∙◌, ◌≤◌, ℕ, List, Bool, ap, arith, length, take, take_all, RuleRow, bit_at, fields_of, list_any, matches}
+use Rattle.gts_inspect.proofs.Cited.{◌==◌, ◌&&◌, ◌∙◌, ◌≤◌, List, Bool, ap, arith, length, take_all, RuleRow, bit_at, fields_of, list_any, matches}
 use Rattle.gts_inspect.proofs.RouteLemmas.{reached_is}
 use Rattle.gts_inspect.proofs.routing.is_reached.Goals as goal
 

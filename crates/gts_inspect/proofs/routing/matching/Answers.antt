@@ -1,4 +1,4 @@
-use Rattle.gts_inspect.proofs.Cited.{◌≡◌, ◌++◌, ℕ, Bool, List, ap, sym, ◌∙◌, fields_of, matches, places, take, where_holds, RuleRow}
+use Rattle.gts_inspect.proofs.Cited.{◌++◌, ℕ, Bool, List, ap, ◌∙◌, fields_of, matches, places, take, where_holds, RuleRow}
 use Rattle.gts_inspect.proofs.RouteLemmas.{places_next}
 use Rattle.gts_inspect.proofs.routing.matching.Goals as goal
 

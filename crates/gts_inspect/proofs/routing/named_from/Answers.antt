@@ -1,4 +1,4 @@
-use Rattle.gts_inspect.proofs.Cited.{◌≡◌, ◌==◌, ◌∙◌, ℕ, List, Result, Ok, Err, IfOk, length, bit_at, fields_of, filter, named, range_with_len}
+use Rattle.gts_inspect.proofs.Cited.{◌≡◌, ◌==◌, ◌∙◌, ℕ, Result, Ok, Err, IfOk, length, bit_at, fields_of, filter, named, range_with_len}
 use Rattle.gts_inspect.proofs.RouteLemmas.{mask_named}
 use Rattle.gts_inspect.proofs.routing.named_from.Goals as goal
 

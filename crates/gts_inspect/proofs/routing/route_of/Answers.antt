@@ -1,4 +1,4 @@
-use Rattle.gts_inspect.proofs.Cited.{◌≡◌, ◌∙◌, ◌+◌, ℕ, List, Bool, ap, length, fields_of, matches, places}
+use Rattle.gts_inspect.proofs.Cited.{◌∙◌, List, ap, length, fields_of, matches, places}
 use Rattle.gts_directory.specs.Directory as directory
 use Rattle.gts_inspect.proofs.RouteLemmas.{places_of_rules}
 use Rattle.gts_inspect.proofs.routing.route_of.Goals as goal

@@ -1,4 +1,4 @@
-use Rattle.gts_inspect.proofs.Cited.{◌≡◌, ◌&&◌, ◌||◌, ◌<◌, ℕ, Bool, not, arith, length, ap, sym, ◌∙◌, list_all, names, range_with_len, rule_of_row}
+use Rattle.gts_inspect.proofs.Cited.{◌&&◌, ◌||◌, ◌<◌, ℕ, Bool, not, arith, length, ap, sym, ◌∙◌, list_all, names, range_with_len, rule_of_row}
 use Rattle.gts_inspect.proofs.RuleLemmas.{all_more, names_is}
 use Rattle.gts_inspect.proofs.rules.names_all.Goals as goal
 

@@ -1,4 +1,4 @@
-use Rattle.gts_inspect.proofs.Cited.{◌≡◌, ◌||◌, ◌<◌, ℕ, Bool, arith, length, ap, sym, ◌∙◌, list_any, names, range_with_len, rule_of_row}
+use Rattle.gts_inspect.proofs.Cited.{◌||◌, ◌<◌, ℕ, Bool, arith, length, ap, sym, ◌∙◌, list_any, names, range_with_len, rule_of_row}
 use Rattle.gts_inspect.proofs.RuleLemmas.{any_more, names_is}
 use Rattle.gts_inspect.proofs.rules.names_one.Goals as goal
 
