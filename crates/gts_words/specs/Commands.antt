@@ -80,9 +80,9 @@ migrating word =
     else (if same word (codes "check") then Some MigrateCheck
     else None)
 
--- the front of a heading is spelled by eleven bytes
+-- the front of a heading is spelled by eleven bytes, the first no hyphen
 abbrev pub front_in : List ℕ → Option (List ℕ)
-front_in word = if length word == 11 then Some word else None
+front_in word = if is_option word then None else (if length word == 11 then Some word else None)
 
 -- the command about a bulletin whose heading begins so
 abbrev pub checking : List ℕ → Option Command

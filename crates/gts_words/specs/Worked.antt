@@ -69,6 +69,7 @@ abbrev pub CheckWords : Type 0
 CheckWords = (command_of (codes "check" ∷ codes "SMVG01 TVSV" ∷ []) ≡ Some (CheckHeading (codes "SMVG01 TVSV")))
     × (command_of (codes "check" ∷ codes "SMVG01 TVSV" ∷ codes "01" ∷ []) ≡ Some (CheckFrom (codes "SMVG01 TVSV") 1))
     × (command_of (codes "check" ∷ codes "SMVG01" ∷ []) ≡ None)
+    × (command_of (codes "check" ∷ codes "-MVG01 TVSV" ∷ []) ≡ None)
     × (command_of (codes "check" ∷ codes "SMVG01 TVSV" ∷ codes "1" ∷ []) ≡ None)
     × (command_of (codes "show" ∷ codes "SMVG01 TVSV" ∷ codes "01" ∷ []) ≡ None)
 

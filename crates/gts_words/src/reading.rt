@@ -46,7 +46,7 @@ fn fault_of(error: &clap::Error) -> WordsFault
 }
 
 /// Whether a word begins with a hyphen, as an option does.
-fn is_option(word: &str) -> bool
+pub(crate) fn is_option(word: &str) -> bool
     ensures { result ≡ commands.is_option word.now }
 {
     word.as_bytes().first() == Some(&b'-')

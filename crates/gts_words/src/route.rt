@@ -4,15 +4,19 @@ ghost use Rattle.gts_words.specs.Commands as commands;
 
 use crate::Command;
 use crate::digits::circuit_in;
+use crate::reading::is_option;
 use gts_traits::WordList;
 
 /// The bytes of a heading's front: `TTAAii CCCC`.
 const FRONT: usize = 11;
 
-/// The front of a heading that a word may be: so many bytes, whatever they are.
+/// The front of a heading that a word may be: so many bytes, the first no hyphen.
 fn front_in(word: &str) -> Option<[u8; FRONT]>
     ensures { result ≡ commands.front_in word.now }
 {
+    if is_option(word) {
+        return None;
+    }
     let bytes = word.as_bytes();
     if bytes.len() != FRONT {
         return None;
