@@ -29,13 +29,14 @@ fn text_of(
         (status ≡ Status.Usage) ⊎ (status ≡ Status.NoMemory)) }
     ensures whole { bulletin ≡ None → result ≡ Err Status.Usage → ⊥ }
 {
-    let Some(Bulletin { heading, from }) = bulletin else {
+    let Some(asked) = bulletin else {
         return match inspection_text(alloc, file) {
             Ok(text) => Ok(text),
             Err(NoMemory) => Err(Status::NoMemory),
         };
     };
-    match route_text(alloc, file, &heading, from) {
+    let heading = asked.heading;
+    match route_text(alloc, file, &heading, asked.from) {
         Ok(Some(text)) => Ok(text),
         Ok(None) => Err(Status::Usage),
         Err(NoMemory) => Err(Status::NoMemory),
