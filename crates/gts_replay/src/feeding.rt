@@ -3,6 +3,7 @@ ghost use Rattle.gts_replay.specs.Cited.{CountsCall, CountsStep, Entry, Feeds, G
 
 use crate::Steps;
 use crate::fault::StepFault;
+use crate::reading::next_bytes;
 use gts_calls::{Switch, feed as feed_on};
 use gts_event::SwitchFault;
 use gts_frame::Decoder;
@@ -10,7 +11,7 @@ use gts_traits::Source;
 use std::alloc::Global;
 
 /// A feed: its bytes come on a circuit, piece by piece, until all came that its head announced. A piece is as long as
-/// `piece` at most.
+/// `piece` at most. What the pieces gather is settled before the capture is read on.
 pub(crate) fn feed<W: Switch, S: Source>(
     alloc: Global,
     switch: &mut W,
@@ -29,7 +30,7 @@ pub(crate) fn feed<W: Switch, S: Source>(
         capture.old capture.new }
 {
     loop {
-        let count = steps.bytes(capture, piece).map_err(StepFault::Capture)?;
+        let count = next_bytes(switch, capture, steps, piece)?;
         if count == 0 {
             return Ok(());
         }
