@@ -1,8 +1,8 @@
-use Rattle.gts_replay.proofs.Cited.{◌≡◌, ◌++◌, ℕ, List, take, length, Result, Ok, Err, OnOk, sym, ap, subst, ◌∙◌, arith, is_err, length-take-le, IfOk-at_ok, err_from_is_err_and, AreStill, Feeds, Goes, SettlesFirst, StepFault, SwitchFault, all_done, events_added, held_in, common_steps}
+use Rattle.gts_replay.proofs.Cited.{◌≡◌, ◌++◌, ℕ, List, take, length, min, Result, Ok, Err, OnOk, sym, ap, subst, ◌∙◌, arith, is_err, length-take-le, IfOk-at_ok, err_from_is_err_and, AreStill, Feeds, Goes, SettlesFirst, StepFault, SwitchFault, all_done, events_added, held_in, common_steps}
 use Rattle.gts_replay.specs.declared.fault.StepFault.TheVariants as step
 use Rattle.gts_replay.proofs.GoingLemmas.{mapped_ok, mapped_err}
 use Rattle.gts_replay.proofs.FeedingLemmas.{fed_none, fed_piece, fed_settled, breaks_piece}
-use Rattle.gts_replay.proofs.StepLemmas.{takes_none, takes_more, takes_at_most, feeds_unread}
+use Rattle.gts_replay.proofs.StepLemmas.{takes_none, takes_more, takes_at_most, all_small, feeds_all, feeds_unread}
 use Rattle.gts_replay.proofs.feeding.feed.Goals as goal
 
 pub loop-count-init : goal.loop-count-init
@@ -19,6 +19,18 @@ returns-in_err-count-clause-feeds g c =
     (feeds_unread g.W.Switch.meanings g.S.Source.observed c.args.c fault fed.0 c.args.steps.now c.loop-count.steps c.next_bytes.new.steps (g.S.Source.left c.args.capture.now) (g.S.Source.left c.loop-count.capture)
     (g.S.Source.left c.next_bytes.new.capture) c.args.decoder.now c.loop-count.decoder c.args.switch.now c.loop-count.switch c.next_bytes.new.switch fed.1 fed.2 (c.next_bytes.ensures.left (ap is_err is))
     (λ t at e. c.next_bytes.ensures.bad t at (is ∙ ap Err e)) (λ t e. c.next_bytes.ensures.source_fault t (is ∙ ap Err e)) settles)
+
+pub returns-then-count-eq0-clause-feeds : goal.returns-then-count-eq0-clause-feeds
+returns-then-count-eq0-clause-feeds g c =
+    let fed = c.loop-count.invariant.fed in
+    let n : ℕ = c.in_ok-count.count in
+    let none : n ≡ 0 = c.if-count-eq0.true in
+    let read = c.in_ok-count.ensures in
+    let some : min (length c.loop-count.piece) c.loop-count.steps.feed ≡ 0 = read.some none in
+    let size : length c.loop-count.piece ≡ length c.args.piece.now = c.loop-count.auto.piece in
+    feeds_all g.W.Switch.meanings g.S.Source.observed c.args.c fed.0 c.next_bytes.new.into n c.args.steps.now c.loop-count.steps c.next_bytes.new.steps (g.S.Source.left c.args.capture.now) (g.S.Source.left c.loop-count.capture)
+    (g.S.Source.left c.next_bytes.new.capture) c.args.decoder.now c.loop-count.decoder c.args.switch.now c.loop-count.switch c.next_bytes.new.switch none
+    (all_small (length c.loop-count.piece) c.loop-count.steps.feed (omega (arith, size, c.requires.piece)) some) fed.1 fed.2 read.told read.passed read.same read.settles
 
 pub returns-in_err-map_err-clause-feeds : goal.returns-in_err-map_err-clause-feeds
 returns-in_err-map_err-clause-feeds g c =
