@@ -1,5 +1,5 @@
 -- The bytes of a connection, piece by piece, and the entries that they add.
-use Rattle.gts_replay.proofs.Cited.{◌≡◌, ℕ, ◌-◌, List, [], ◌++◌, length, take, drop, Ok, Err, inl, inr, sym, ap, subst, ◌∙◌, arith, append-nil, take_all, BreaksOff, Decoding, Entry, IsFed, IsSettling, MayHaveSettled, Standing, Stands, SwitchFault, all_done, events_added, held_in, added-twice, common_steps}
+use Rattle.gts_replay.proofs.Cited.{◌≡◌, ℕ, ◌-◌, List, [], ◌++◌, length, take, drop, Err, inl, inr, sym, ap, subst, ◌∙◌, arith, append-nil, take_all, BreaksOff, Decoding, Entry, IsFed, IsSettling, MayHaveSettled, Standing, Stands, SwitchFault, all_done, events_added, held_in, added-twice, common_steps}
 use Rattle.std.proofs.Common.{length-drop}
 use Rattle.std.proofs.lemmas.List.{append_assoc}
 use Rattle.gts_replay.proofs.GoingLemmas.{all_done-append, stands_same, stands_settled, settles_all, settles_not, within_all, then_goes, breaks_before}

@@ -1,5 +1,5 @@
 -- Steps of a capture, one after another.
-use Rattle.gts_replay.proofs.Cited.{◌≡◌, ℕ, ◌+◌, ◌≤◌, List, [], ◌∷◌, ◌++◌, length, Ok, inl, inr, sym, ap, subst, ◌∙◌, arith, append_assoc, length-append, append-nil, AreStepsOf, CaptureKind, Compact, Connections, Decode, Decoding, Directory, DoesStep, Entry, FeedHead, Head, Held, IsHeadIn, IsHeadOf, IsReadTo, IsSameCapture, IsStepOf, MayHaveSettled, ReadsHead, Standing, Stands, StandsFor, Step, Takes, after_step, at_start, bytes_announced, bytes_of_step, compacted_at, compactions_at, connections_after, count_at, entries_at, entries_of_step, first_after, head_text, no_bytes, origin_after, state_at, step_text, after_all-append, entries_go_on, connections_go_on, common_steps}
+use Rattle.gts_replay.proofs.Cited.{◌≡◌, ℕ, ◌+◌, ◌≤◌, List, [], ◌∷◌, ◌++◌, length, Ok, inl, inr, sym, ap, subst, ◌∙◌, arith, append_assoc, length-append, append-nil, AreStepsOf, CaptureKind, Compact, Connections, Decode, Decoding, Directory, DoesStep, Entry, FeedHead, Head, Held, IsHeadIn, IsHeadOf, IsReadTo, IsStepOf, MayHaveSettled, ReadsHead, Standing, Stands, StandsFor, Step, Takes, after_step, at_start, bytes_announced, bytes_of_step, compacted_at, compactions_at, connections_after, count_at, entries_at, entries_of_step, first_after, head_text, no_bytes, origin_after, state_at, step_text, after_all-append, entries_go_on, connections_go_on, common_steps}
 use Rattle.gts_replay.specs.Cited.{head_of}
 use Rattle.gts_replay.proofs.LawLemmas.{begins, one_step}
 use Rattle.gts_replay.proofs.GoingLemmas.{stands_same, stands_settled, settles_all, within_all}

@@ -1,7 +1,5 @@
-//! A run reads on where what it read is used up. The source may wait then, so what was gathered is settled first.
-
-ghost use Rattle.std.specs.Prelude.{◌≡◌, ◌<◌, ◌≤◌, ◌++◌, ℕ, IfOk, IsErr, Err, length, take, min};
-ghost use Rattle.gts_replay.specs.Cited.{CountsStep, EndsInFeed, HasSourceCause, IsBadAt, IsSameCapture, IsSettled, Passed, ReadsHead, SettlesFirst, StopsInFeed, StopsInHead, readable_from};
+ghost use Rattle.std.specs.Prelude.{◌≡◌, ◌++◌, ℕ, IfOk, Err};
+ghost use Rattle.gts_replay.specs.Cited.{CountsStep, HasSourceCause, IsBadAt, IsSameCapture, IsSettled, ReadsHead, SettlesFirst, StopsInHead, readable_from};
 ghost use Rattle.gts_replay.specs.Heads.{head_of};
 ghost use Rattle.gts_replay.specs.declared.fault.StepFault.TheVariants as step;
 
@@ -59,68 +57,6 @@ pub(crate) fn next_head<W: Switch, S: Source>(
     }
     match read_head(switch, capture, steps) {
         Ok(head) => Ok(head),
-        Err(fault) => Err(StepFault::Capture(fault)),
-    }
-}
-
-/// Reads the source for the next bytes of a feed, of which nothing is held. It may wait, and so the switch has nothing gathered.
-fn read_bytes<W: Switch, S: Source>(
-    _switch: &W,
-    capture: &mut S,
-    steps: &mut Steps,
-    into: &mut [u8],
-) -> Result<usize, CaptureFault>
-    requires { IsSettled W.meanings _switch.now }
-    ensures told { S.observed → IfOk result (λ count. steps.old.ahead ++ S.left capture.old
-        ≡ take count into.new ++ (steps.new.ahead ++ S.left capture.new)) }
-    ensures most { IfOk result (λ count. count ≤ min (length into.old) steps.old.feed) }
-    ensures left { IsErr result → 0 < steps.old.feed }
-    ensures some { IfOk result (λ count. count ≡ 0 → min (length into.old) steps.old.feed ≡ 0) }
-    ensures passed { IfOk result (λ count. Passed steps.old steps.new count) }
-    ensures bad { S.observed → (at : ℕ) → result ≡ Err (CaptureFault.Bad at)
-        → EndsInFeed steps.old
-        (readable_from steps.old.at (steps.old.ahead ++ S.left capture.old)) at }
-    ensures source_fault { S.observed → result ≡ Err CaptureFault.SourceFault
-        → StopsInFeed steps.old steps.new (S.left capture.old) (S.left capture.new) }
-    ensures same { IsSameCapture steps.old steps.new }
-    ensures cause { HasSourceCause result (S.faults capture.old) (S.faults capture.new) }
-{
-    steps.bytes(capture, into)
-}
-
-/// Takes the next bytes of a feed to the front of `into`, and answers how many. Where nothing is held of it, what the switch gathered
-/// is settled, and the source is read.
-pub(crate) fn next_bytes<W: Switch, S: Source>(
-    switch: &mut W,
-    capture: &mut S,
-    steps: &mut Steps,
-    into: &mut [u8],
-) -> Result<usize, StepFault>
-    ensures told { S.observed → IfOk result (λ count. steps.old.ahead ++ S.left capture.old
-        ≡ take count into.new ++ (steps.new.ahead ++ S.left capture.new)) }
-    ensures most { IfOk result (λ count. count ≤ min (length into.old) steps.old.feed) }
-    ensures left { IsErr result → 0 < steps.old.feed }
-    ensures some { IfOk result (λ count. count ≡ 0 → min (length into.old) steps.old.feed ≡ 0) }
-    ensures passed { IfOk result (λ count. Passed steps.old steps.new count) }
-    ensures bad { S.observed → (at : ℕ) → result ≡ Err (step.Capture (CaptureFault.Bad at))
-        → EndsInFeed steps.old
-        (readable_from steps.old.at (steps.old.ahead ++ S.left capture.old)) at }
-    ensures source_fault { S.observed → result ≡ Err (step.Capture CaptureFault.SourceFault)
-        → StopsInFeed steps.old steps.new (S.left capture.old) (S.left capture.new) }
-    ensures same { IsSameCapture steps.old steps.new }
-    ensures settles { SettlesFirst W.meanings result switch.old switch.new }
-    ensures directory { W.meanings.directory switch.new ≡ W.meanings.directory switch.old }
-    ensures cause { CountsStep W.Switch S.Source result switch.old switch.new
-        capture.old capture.new }
-{
-    if steps.has_bytes() {
-        return Ok(steps.hand_on(into));
-    }
-    if let Err(fault) = switch.settle() {
-        return Err(StepFault::Switch(fault));
-    }
-    match read_bytes(switch, capture, steps, into) {
-        Ok(count) => Ok(count),
         Err(fault) => Err(StepFault::Capture(fault)),
     }
 }

@@ -1,6 +1,4 @@
 use Rattle.gts_replay.proofs.Cited.{◌≡◌, ◌++◌, Err, ap, subst, ◌∙◌, Bad, CaptureFault, Held, IsBadAt, readable_from}
-use Rattle.gts_replay.specs.declared.fault.StepFault.{StepFault}
-use Rattle.gts_replay.specs.declared.fault.StepFault.TheVariants as step
 use Rattle.gts_replay.proofs.reading.next_head.Goals as goal
 
 pub returns-in-Err-read_head-clause-bad : goal.returns-in-Err-read_head-clause-bad

@@ -1,4 +1,4 @@
-use Rattle.gts_replay.proofs.Cited.{◌≡◌, ◌+◌, ◌≤◌, ℕ, List, [], ◌∷◌, ◌++◌, length, Result, Err, OnOk, refl, ap, subst, ◌∙◌, arith, length-append, AreStill, DoesStep, ReadsHead, ReplayEnd, SettlesBehind, SettlesFirst, StepFault, head_of, each_connection, common_steps}
+use Rattle.gts_replay.proofs.Cited.{◌≡◌, ◌+◌, ℕ, List, [], ◌∷◌, ◌++◌, Result, Err, OnOk, refl, ap, subst, ◌∙◌, arith, length-append, AreStill, DoesStep, ReadsHead, ReplayEnd, SettlesBehind, SettlesFirst, StepFault, head_of, each_connection, common_steps}
 use Rattle.gts_replay.specs.declared.head.Head.{Head}
 use Rattle.gts_replay.proofs.DecoderLemmas.{decode_each}
 use Rattle.gts_replay.proofs.RunLemmas.{runs_none, runs_settled, runs_more}
