@@ -17,7 +17,7 @@ fn read_bytes<W: Switch, S: Source>(
     steps: &mut Steps,
     into: &mut [u8],
 ) -> Result<usize, CaptureFault>
-    requires { IsSettled W.meanings _switch.now }
+    requires settled { IsSettled W.meanings _switch.now }
     ensures told { S.observed → IfOk result (λ count. steps.old.ahead ++ S.left capture.old
         ≡ take count into.new ++ (steps.new.ahead ++ S.left capture.new)) }
     ensures most { IfOk result (λ count. count ≤ min (length into.old) steps.old.feed) }
