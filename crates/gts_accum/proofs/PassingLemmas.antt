@@ -1,5 +1,7 @@
 -- What calls make of a file whose source is observed, one after another.
-use Rattle.gts_accum.proofs.Cited.{◌≡◌, ◌+◌, ◌-◌, ◌≤◌, List, ℕ, [], ◌∷◌, ◌++◌, length, take, Result, Ok, Err, refl, sym, ap, subst, ◌∙◌, append_assoc, arith, length-append, Covers, Format, Head, IsNext, LONGEST_FILE, Next, Passes, Rest, Takes, UnpackedParts, Unpacking, ahead, ahead_of, back_of, behind, entry_rest, reading, reading_from, rest_of, unpacking_of}
+use Rattle.gts_accum.proofs.Cited.{◌≡◌, ◌+◌, ◌-◌, ◌^◌, if◌then◌else◌, ◌≤◌, List, ℕ, [], ◌∷◌, ◌++◌, length, take, Bool, true, false, Result, Ok, Err, refl, sym, ap, subst, ◌∙◌, append_assoc, append-nil, common_steps, arith, length-append, Ahead, Covers, Format, HasCause, Head, IsLeft, IsNext, KeepsFailed, MOST_DUE, LONGEST_FILE, Next, Passes, Rest, Takes, UnpackedParts, Unpacking, ahead, ahead_of, back_of, behind, capture_left, captured, due, entry_rest, left_ahead, reading, reading_from, rest_of, unpacking_of}
+use Rattle.gts_accum.specs.Traced.{IsSince, whether_failed}
+use Rattle.gts_traits.specs.Cited.{Rose}
 use Rattle.gts_accum.specs.declared.next.Next.TheVariants.{Entry}
 use Rattle.gts_accum.proofs.UnpackingLemmas.{ahead-entry, entry_reads, entry-done, given-all, with_bad}
 
@@ -14,6 +16,60 @@ takes_shorter (Err e) old new into is = omega (arith, ap length is)
 
 behind-both : (g h : List ℕ) (x : Rest) → behind g (behind h x) ≡ behind (g ++ h) x
 behind-both g h x = ap (λ (t : List ℕ). with_bad t x.bad) (sym (append_assoc g h x.text))
+
+-- ---- a source that is read ahead, and may fail
+
+rose_later : (before mid now : ℕ) → before ≤ mid → Rose mid now → Rose before now
+rose_later before mid now le rose = grind (arith, common_steps)
+
+rose_last : (before now : ℕ) → now ≡ 2 ^ 64 - 1 → Rose before now
+rose_last before now last = grind (arith, common_steps)
+
+at_most : (f : Bool) → (if f then 2 ^ 64 - 1 else 0) ≤ 2 ^ 64 - 1
+at_most true = omega arith
+at_most false = omega arith
+
+-- behind a read the count of failures is as before, or nothing is held
+pub since-on : {S T E : Type 0} (faults : S → ℕ) (before : ℕ) (result : Result T E) (old new : Ahead S) → IsSince faults before old → KeepsFailed result old new
+    → HasCause result (faults old.source) (faults new.source) → IsSince faults before new
+since-on faults before (Ok x) old new u keeps cause = record {
+  later = omega (arith, u.later, cause.later);
+  still = λ e. cause.sound ∙ u.still (sym keeps.same ∙ e);
+  rose = λ e.
+      let rose = u.rose (sym keeps.same ∙ e) in
+      omega (arith, rose, cause.later);
+  none = keeps.none;
+}
+since-on faults before (Err x) old new u keeps cause = record {
+  later = omega (arith, u.later, cause.later);
+  still = λ e.
+      let failed : new.failed ≡ true = keeps.fails refl in
+      absurd (cc);
+  rose = λ e. rose_later before (faults old.source) (faults new.source) u.later (cause.failed refl);
+  none = keeps.none;
+}
+
+-- where it failed, all that was taken is in what was given, but for what is due
+pub left-behind : {S : Type 0} (left : S → List ℕ) (file : List ℕ) (c : ℕ) (u : Unpacking (Ahead S)) → Covers (left_ahead left) file c u → u.source.held ≡ []
+    → length (due u) ≤ MOST_DUE → IsLeft file (left u.source.source) c (capture_left (left_ahead left) u)
+left-behind left file c u k none short = record {
+  taken = k.taken;
+  given = k.given;
+  due = due u;
+  read = k.text ∙ ap (λ (l : List ℕ). k.taken ++ (l ++ left u.source.source)) none;
+  capture = ap (λ (l : List ℕ). captured l c) k.text ∙ ap (λ (x : Rest). x.text) (k.rest (left_ahead left u.source) (λ e. e));
+  part = ap (λ (l : List ℕ). captured l c) (sym (append-nil k.taken)) ∙ ap (λ (x : Rest). x.text) (k.rest [] (λ e. refl));
+  short = short;
+}
+
+-- whether it has failed, as a count
+pub cause-whether : {S T E : Type 0} (result : Result T E) (old new : Ahead S) → KeepsFailed result old new → HasCause result (whether_failed old) (whether_failed new)
+cause-whether (Ok x) old new keeps =
+    let same : whether_failed new ≡ whether_failed old = ap (λ (f : Bool). if f then 2 ^ 64 - 1 else 0) keeps.same in
+    record { later = omega (arith, same); failed = λ e. absurd (cc); sound = same }
+cause-whether (Err x) old new keeps =
+    let last : whether_failed new ≡ 2 ^ 64 - 1 = ap (λ (f : Bool). if f then 2 ^ 64 - 1 else 0) (keeps.fails refl) in
+    record { later = omega (arith, last, at_most old.failed); failed = λ e. rose_last (whether_failed old) (whether_failed new) last; sound = tt }
 
 module _ {S : Type 0} (left : S → List ℕ) where
   -- one after another

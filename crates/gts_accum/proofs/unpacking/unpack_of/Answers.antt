@@ -1,3 +1,4 @@
+use Rattle.gts_accum.specs.Ahead.{left_ahead}
 use Rattle.gts_accum.proofs.Cited.{ℕ, ◌≤◌, List, length, sym, ap, subst, arith, IsLeft, IsPlaceMet, Journaled, ReplayEnd, StandsFor, UnpackEnd, Unpacks, badplace, capture_left, captured, common_steps}
 use Rattle.gts_replay.specs.Cited.{Ends}
 use Rattle.gts_event.specs.declared.event.Entry.{Entry}
@@ -11,7 +12,7 @@ returns-clause-ends g c =
     let left = g.S.Source.left in
     let file : List ℕ = left c.args.file in
     let now : List ℕ = left c.into_inner.result in
-    let rest : List ℕ = capture_left left c.replay.new.capture in
+    let rest : List ℕ = capture_left (left_ahead left) c.replay.new.capture in
     let few : length (meanings.directory c.args.switch.now).circuits ≤ 100 = omega (arith, c.circuits-few.ensures.circuits, c.circuits-few.ensures.few) in
     let Q : UnpackEnd → Type 0 = λ e. Unpacks meanings g.W.Switch.observed g.S.Source.observed e c.args.switch.now c.replay.new.switch file now c.args.c in
     let run = λ (o : g.W.Switch.Origin) (h : List Entry) (stands : StandsFor meanings o (length h) h c.args.switch.now).
@@ -31,12 +32,12 @@ returns-clause-ends g c =
           subst Q (sym w.end-is)
           (from-end meanings g.W.Switch.observed g.S.Source.observed c.replay.result c.args.switch.now c.replay.new.switch file rest c.args.c few c.requires.circuit
           w.in_default.not-Capture run now
-          (λ observed.
+          (λ e observed.
           let A : List ℕ → Type 0 = λ f. IsLeft f now c.args.c rest in
           let B : ℕ → Type 0 = λ n. IsLeft g.B.OfFile.file now n rest in
           let C : List ℕ → Type 0 = λ l. IsLeft g.B.OfFile.file now g.B.OfFile.circuit l in
           subst A (sym (c.requires.file observed))
-          (subst B (sym c.requires.picked) (subst C (ap (capture_left left) w.traced-is) (c.into_inner.ensures.left observed)))))
+          (subst B (sym c.requires.picked) (subst C (ap (capture_left (left_ahead left)) w.traced-is) (c.into_inner.ensures.left observed (λ same. grind (arith, common_steps)))))))
     ]
 
 pub returns-clause-cause : goal.returns-clause-cause

@@ -1,3 +1,4 @@
+use Rattle.gts_accum.specs.Ahead.{left_ahead}
 use Rattle.gts_accum.proofs.Cited.{◌≡◌, [], length, Head, IsSound, Passes, ahead, missing, unpacking_of}
 use Rattle.gts_accum.proofs.parts.UnpackedParts.fill.Given as goal
 
@@ -6,9 +7,9 @@ invariant-loop-self g l = record {
   sound : IsSound l.self;
   given : l.self.next ≡ Head → l.self.given ≡ length l.self.made;
   circuit : l.self.circuit ≡ l.fn.self.circuit;
-  same : g.S.Source.observed → ahead g.S.Source.left (unpacking_of l.self) ≡ ahead g.S.Source.left (unpacking_of l.fn.self);
-  passes : g.S.Source.observed → Passes g.S.Source.left (unpacking_of l.fn.self) (unpacking_of l.self) [];
-  steady : g.S.Source.faults l.self.source ≡ g.S.Source.faults l.fn.self.source;
+  same : g.S.Source.observed → ahead (left_ahead g.S.Source.left) (unpacking_of l.self) ≡ ahead (left_ahead g.S.Source.left) (unpacking_of l.fn.self);
+  passes : g.S.Source.observed → Passes (left_ahead g.S.Source.left) (unpacking_of l.fn.self) (unpacking_of l.self) [];
+  steady : g.S.Source.faults l.self.source.source ≡ g.S.Source.faults l.fn.self.source.source;
 }
 
 abbrev pub decreases-loop-self : goal.decreases-loop-self
