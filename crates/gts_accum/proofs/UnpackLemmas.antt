@@ -115,25 +115,6 @@ from-cut meanings station observed at (Ended _) old new file left c few here end
 
 -- ---- causes
 
--- the run of a capture that is made of a source which is read ahead: the source's own count
-pub cause-of-source : {S : Type 0} (faults : S → ℕ) (before : ℕ) (r : ReplayEnd) (disk disk_now say say_now : ℕ) (old new : Ahead S) → HasReplayCause r disk disk_now say say_now (whether_failed old) (whether_failed new)
-    → old.failed ≡ false → IsSince faults before new → HasReplayCause r disk disk_now say say_now before (faults new.source)
-cause-of-source faults before r disk disk_now say say_now old new k sound since =
-    let none : whether_failed old ≡ 0 = ap (λ (f : Bool). if f then 2 ^ 64 - 1 else 0) sound in
-    record {
-      disk_later = k.disk_later;
-      say_later = k.say_later;
-      source_later = since.later;
-      disk_failed = k.disk_failed;
-      compaction_failed = k.compaction_failed;
-      reopen_failed = k.reopen_failed;
-      say_failed = k.say_failed;
-      source_failed = λ e. since.rose (has_failed old new none (k.source_failed e));
-      sound = λ u.
-          let still = k.sound u in
-          (still.0, still.1, since.still (has_not new (still.2 ∙ none)));
-    }
-
 -- it has failed where that rose
 pub has_failed : {S : Type 0} (old new : Ahead S) → whether_failed old ≡ 0 → Rose (whether_failed old) (whether_failed new) → new.failed ≡ true
 has_failed old new none rose = go new.failed refl
@@ -152,6 +133,25 @@ has_not new none = go new.failed refl
     go true is =
         let now : whether_failed new ≡ 2 ^ 64 - 1 = ap (λ (f : Bool). if f then 2 ^ 64 - 1 else 0) is in
         absurd (omega (arith, now, none))
+
+-- the run of a capture that is made of a source which is read ahead: the source's own count
+pub cause-of-source : {S : Type 0} (faults : S → ℕ) (before : ℕ) (r : ReplayEnd) (disk disk_now say say_now : ℕ) (old new : Ahead S) → HasReplayCause r disk disk_now say say_now (whether_failed old) (whether_failed new)
+    → old.failed ≡ false → IsSince faults before new → HasReplayCause r disk disk_now say say_now before (faults new.source)
+cause-of-source faults before r disk disk_now say say_now old new k sound since =
+    let none : whether_failed old ≡ 0 = ap (λ (f : Bool). if f then 2 ^ 64 - 1 else 0) sound in
+    record {
+      disk_later = k.disk_later;
+      say_later = k.say_later;
+      source_later = since.later;
+      disk_failed = k.disk_failed;
+      compaction_failed = k.compaction_failed;
+      reopen_failed = k.reopen_failed;
+      say_failed = k.say_failed;
+      source_failed = λ e. since.rose (has_failed old new none (k.source_failed e));
+      sound = λ u.
+          let still = k.sound u in
+          (still.0, still.1, since.still (has_not new (still.2 ∙ none)));
+    }
 
 pub cause-end : (r : ReplayEnd) (disk disk_now say say_now source source_now : ℕ) → HasReplayCause r disk disk_now say say_now source source_now
     → HasUnpackCause (Ended r) disk disk_now say say_now source source_now

@@ -1,4 +1,5 @@
 ghost use Rattle.std.specs.Prelude.{◌≡◌, ◌<◌, length};
+ghost use Rattle.gts_accum.specs.Traced.{IsSince};
 ghost use Rattle.gts_accum.specs.Cited.{CountsUnpack, HasFileCause, IsFileEnd, IsPlaceMet, Unpacks, badplace};
 
 use crate::traced::{OfFile, Traced};
@@ -15,6 +16,7 @@ use std::marker::Brand;
 fn end_of_file<S: Source, B: OfFile>(traced: &mut Traced<S, B>, at: u64) -> UnpackEnd
     ensures told { S.observed → IsPlaceMet (badplace B.file) result }
     ensures kind { IsFileEnd result }
+    ensures since { IsSince S.faults B.faults traced.old.source }
     ensures cause { HasFileCause result (S.faults traced.old.source.source)
         (S.faults traced.new.source.source) }
 {
