@@ -1,6 +1,6 @@
 use Rattle.gts_accum.specs.Ahead.{left_ahead}
 use Rattle.gts_accum.proofs.Cited.{◌≡◌, [], length, Head, IsSound, Passes, ahead, missing, unpacking_of}
-use Rattle.gts_accum.proofs.parts.UnpackedParts.fill.Given as goal
+use Rattle.gts_accum.proofs.parts.UnpackedParts+ReadAhead+S.fill.Given as goal
 
 abbrev pub invariant-loop-self : goal.invariant-loop-self
 invariant-loop-self g l = record {

@@ -1,7 +1,7 @@
 use Rattle.gts_accum.specs.Ahead.{left_ahead}
 use Rattle.gts_accum.proofs.Cited.{given_by, unpacking_of}
 use Rattle.gts_accum.proofs.PassingLemmas.{passes-then}
-use Rattle.gts_accum.proofs.parts.UnpackedParts.read.Goals as goal
+use Rattle.gts_accum.proofs.parts.UnpackedParts+ReadAhead+S.read_piece.Goals as goal
 
 pub returns-in-Entry-clause-passes : goal.returns-in-Entry-clause-passes
 returns-in-Entry-clause-passes g c = λ observed.

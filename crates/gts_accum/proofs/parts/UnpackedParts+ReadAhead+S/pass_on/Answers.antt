@@ -1,7 +1,7 @@
 use Rattle.gts_accum.specs.Ahead.{left_ahead}
 use Rattle.gts_accum.proofs.Cited.{drop, arith, length-take, common_steps}
 use Rattle.gts_accum.proofs.PassingLemmas.{gives-by, passes-last, passes-more}
-use Rattle.gts_accum.proofs.parts.UnpackedParts.pass_on.Goals as goal
+use Rattle.gts_accum.proofs.parts.UnpackedParts+ReadAhead+S.pass_on.Goals as goal
 
 pub returns-then-left-eq0-clause-passes : goal.returns-then-left-eq0-clause-passes
 returns-then-left-eq0-clause-passes g c = λ observed.
