@@ -38,7 +38,6 @@ since-on faults before (Ok x) old new u keeps cause = record {
   rose = λ e.
       let rose = u.rose (sym keeps.same ∙ e) in
       omega (arith, rose, cause.later);
-  none = keeps.none;
 }
 since-on faults before (Err x) old new u keeps cause = record {
   later = omega (arith, u.later, cause.later);
@@ -46,7 +45,6 @@ since-on faults before (Err x) old new u keeps cause = record {
       let failed : new.failed ≡ true = keeps.fails refl in
       absurd (cc);
   rose = λ e. rose_later before (faults old.source) (faults new.source) u.later (cause.failed refl);
-  none = keeps.none;
 }
 
 -- where it failed, all that was taken is in what was given, but for what is due

@@ -15,11 +15,10 @@ pub record Ahead (S : Type 0) : Type 0 where
 abbrev pub left_ahead : {S : Type 0} → (S → List ℕ) → Ahead S → List ℕ
 left_ahead left a = a.held ++ left a.source
 
--- What a read tells of failing: one that failed is kept in mind, and behind it nothing is read ahead.
+-- What a read tells of failing: one that failed is kept in mind.
 pub record KeepsFailed {S T E : Type 0} (result : Result T E) (old new : Ahead S) : Type 0 where
   pub same : OnOk result (new.failed ≡ old.failed)
   pub fails : IsErr result → new.failed ≡ true
-  pub none : new.failed ≡ true → new.held ≡ []
 
 -- a head, or bytes of an entry, can be read without the source, where so many bytes of a head were read and so many are held
 abbrev pub HasEnough : Next → (head held : ℕ) → Type 0

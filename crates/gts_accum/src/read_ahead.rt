@@ -56,9 +56,10 @@ impl<S: Source> ReadAhead<S> {
         self.end - self.start
     }
 
-    /// The source, with what it has left.
+    /// The source, with what it has left. Where it has failed nothing of it is held.
     pub(crate) fn into_inner(self) -> S
-        ensures { result ≡ self.source }
+        ensures source { result ≡ self.source }
+        ensures none { self.failed ≡ true → self.held ≡ [] }
     {
         self.source
     }

@@ -36,6 +36,5 @@ loop-preserved g c =
           (k.0 ++ given, passes-both left c.args.unpacked.now c.loop.unpacked c.read.new.self k.0 given k.1 (c.in_ok-read.ensures.passes observed));
       due = c.read.ensures.due;
       failed = c.in_ok-read.ensures.failed.same ∙ c.loop.invariant.failed;
-      none = c.in_ok-read.ensures.failed.none;
       sound = c.in_ok-read.ensures.cause.sound ∙ c.loop.invariant.sound;
     }

@@ -1,5 +1,5 @@
 use Rattle.gts_accum.specs.Ahead.{left_ahead}
-use Rattle.gts_accum.proofs.Cited.{◌≡◌, [], length, Head, IsSound, Passes, ahead, missing, unpacking_of}
+use Rattle.gts_accum.proofs.Cited.{◌≡◌, ◌+◌, ◌≤◌, [], length, ENTRY_HEAD, Head, IsSound, Passes, ahead, missing, unpacking_of}
 use Rattle.gts_accum.proofs.parts.UnpackedParts+ReadAhead+S.fill.Given as goal
 
 abbrev pub invariant-loop-self : goal.invariant-loop-self
@@ -9,6 +9,9 @@ invariant-loop-self g l = record {
   circuit : l.self.circuit ≡ l.fn.self.circuit;
   same : g.S.Source.observed → ahead (left_ahead g.S.Source.left) (unpacking_of l.self) ≡ ahead (left_ahead g.S.Source.left) (unpacking_of l.fn.self);
   passes : g.S.Source.observed → Passes (left_ahead g.S.Source.left) (unpacking_of l.fn.self) (unpacking_of l.self) [];
+  apart : (l.fn.self.next ≡ Head → ENTRY_HEAD ≤ l.fn.self.held + length l.fn.self.source.held)
+      → (l.self.source.source ≡ l.fn.self.source.source) × (l.self.next ≡ Head → l.self ≡ l.fn.self);
+  failed : l.self.source.failed ≡ l.fn.self.source.failed;
   steady : g.S.Source.faults l.self.source.source ≡ g.S.Source.faults l.fn.self.source.source;
 }
 

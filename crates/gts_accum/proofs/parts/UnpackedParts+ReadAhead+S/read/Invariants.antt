@@ -1,4 +1,4 @@
-use Rattle.gts_accum.proofs.Cited.{◌≡◌, ◌≤◌, ◌<◌, ◌-◌, [], length, take, true, IsSound, Passes, left_ahead, unpacking_of}
+use Rattle.gts_accum.proofs.Cited.{◌≡◌, ◌≤◌, ◌<◌, ◌-◌, length, take, IsSound, Passes, left_ahead, unpacking_of}
 use Rattle.gts_accum.specs.Unpacking.{IsAtEnd}
 use Rattle.gts_accum.proofs.parts.UnpackedParts+ReadAhead+S.read.Given as goal
 
@@ -12,7 +12,6 @@ invariant-loop-count g l = record {
   end : l.count ≡ 0 → 0 < length l.into → IsAtEnd (unpacking_of l.self);
   faults : g.S.Source.faults l.self.source.source ≡ g.S.Source.faults l.fn.self.source.source;
   failed : l.self.source.failed ≡ l.fn.self.source.failed;
-  none : l.self.source.failed ≡ true → l.self.source.held ≡ [];
 }
 
 abbrev pub decreases-loop-count : goal.decreases-loop-count

@@ -23,8 +23,5 @@ invariant_of-result g c =
         rose = λ e.
             let sound = ap (λ (a : Ahead _). a.failed) of in
             absurd (cc);
-        none = λ e.
-            let sound = ap (λ (a : Ahead _). a.failed) of in
-            absurd (cc);
       },
     )
