@@ -53,7 +53,7 @@ impl<S: Source> ReadAhead<S> {
     pub(crate) fn held(&self) -> usize
         ensures { result ≡ length self.now.held }
     {
-        self.end - self.start
+        self.buffer[self.start..self.end].len()
     }
 
     /// The source, with what it has left. Where it has failed nothing of it is held.

@@ -1,6 +1,6 @@
 use Rattle.gts_accum.specs.Ahead.{left_ahead}
 use Rattle.gts_accum.proofs.Cited.{drop, arith, length-take, common_steps}
-use Rattle.gts_accum.proofs.PassingLemmas.{gives-by, passes-last, passes-more}
+use Rattle.gts_accum.proofs.PassingLemmas.{passes-last, passes-more}
 use Rattle.gts_accum.proofs.parts.UnpackedParts+ReadAhead+S.pass_on.Goals as goal
 
 pub returns-then-left-eq0-clause-passes : goal.returns-then-left-eq0-clause-passes
@@ -11,11 +11,5 @@ returns-then-left-eq0-clause-passes g c = λ observed.
     (omega (arith, room, c.in_ok-count.ensures.count, c.min-room.ensures, c.min-most.ensures, c.requires.sound.place)) (c.in_ok-count.ensures.bytes observed).0 c.make.new.self
     c.closing.result c.if-left-eq0.true c.requires.sound.next c.closing.ensures c.make.ensures
 
-pub returns-then-left-eq0-clause-gives : goal.returns-then-left-eq0-clause-gives
-returns-then-left-eq0-clause-gives g c = λ observed. gives-by (left_ahead g.S.Source.left) _ _ _ (returns-then-left-eq0-clause-passes g c observed)
-
 pub returns-else-left-eq0-clause-passes : goal.returns-else-left-eq0-clause-passes
 returns-else-left-eq0-clause-passes g c = grind (arith, common_steps, length-take, passes-more)
-
-pub returns-else-left-eq0-clause-gives : goal.returns-else-left-eq0-clause-gives
-returns-else-left-eq0-clause-gives g c = λ observed. gives-by (left_ahead g.S.Source.left) _ _ _ (returns-else-left-eq0-clause-passes g c observed)
