@@ -6,8 +6,7 @@ use Rattle.gts_accum.proofs.traced.Traced.bad.Goals as goal
 pub invariant_of-self : goal.invariant_of-self
 invariant_of-self g c =
     let left = left_ahead g.S.Source.left in
-    let was = c.self.invariant.0 in
-    (
+    let was = c.self.invariant.0 in (
       record {
         place = λ observed. c.finish.ensures.bad observed ∙ was.place observed;
         short = λ observed. omega (arith, c.finish.ensures.shorter observed, was.short observed);

@@ -7,8 +7,7 @@ pub invariant_of-result : goal.invariant_of-result
 invariant_of-result g c =
     let left = left_ahead g.S.Source.left in
     let of = c.new.ensures.source in
-    let count = ap (λ (a : Ahead _). g.S.Source.faults a.source) of ∙ c.requires.faults in
-    (
+    let count = ap (λ (a : Ahead _). g.S.Source.faults a.source) of ∙ c.requires.faults in (
       record {
         place = λ observed. c.new.ensures.bad ∙ ap badplace (c.requires.file observed);
         short = λ observed. omega (arith, ap length c.new.ensures.capture, c.a_capture_of_a_file_is_short.ensures (g.S.Source.left c.args.source) c.args.c);
