@@ -1,7 +1,7 @@
 use Rattle.gts_generate.proofs.Cited.{◌≡◌, ℕ, ◌-◌, ◌++◌, [], List, length, take, drop, min, sym, ap, ◌∙◌, arith, take_rest, drop-drop, length-drop}
-use Rattle.gts_generate.specs.DayView.{pieces_left}
+use Rattle.gts_generate.specs.DayView.{bytes_left, pieces_left}
 use Rattle.gts_generate.proofs.DayLemmas.{reads_on}
-use Rattle.gts_generate.proofs.generated.GeneratedSource.read.Goals as goal
+use Rattle.gts_generate.proofs.generated.hand_on.Goals as goal
 
 pub returns-clause-bytes : goal.returns-clause-bytes
 returns-clause-bytes c =
@@ -15,5 +15,5 @@ returns-clause-bytes c =
     let written : c.copy_from_slice.new.self ≡ take count left = c.copy_from_slice.ensures.after ∙ ap (λ (xs : List ℕ). take count xs) slice_is in
     let ready : length left ≡ 0 → left ++ rest ≡ [] =
     λ none. c.fill.ensures.ready (omega (arith, none, length-drop taken piece, c.fill.ensures.sound.taken)) in
-    let now_is : c.args.self.now ≡ left ++ rest = sym c.self.view_is ∙ sym c.fill.ensures.same in
-    rw (now_is, written, ← drop-drop count taken piece) (reads_on left rest c.args.into.now count is_least ready)
+    let now_is : bytes_left c.args.parts.now ≡ left ++ rest = sym c.fill.ensures.same in
+    rw (now_is, written, ← drop-drop count taken piece) (reads_on left rest c.args.into.now count is_least ready).0
