@@ -34,11 +34,8 @@ const A_SECOND: u32 = 1_000;
 /// How many looks in turn may find nothing of a neighbour that was sent the end: those of five seconds.
 const MOST_SILENT_LOOKS: u32 = 5_000 / LONGEST_WAIT;
 
-/// How many writes wait in vain in a second.
-const WAITS_A_SECOND: u32 = A_SECOND / LONGEST_WAIT;
-
 /// How many writes in turn may have waited in vain until an operator is told: those of a minute.
-const MOST_WAITS: u32 = 60 * WAITS_A_SECOND;
+const MOST_WAITS: u32 = 60 * A_SECOND / LONGEST_WAIT;
 
 /// The way to a neighbour's port, over the connection that stands there now.
 #[derive(Drop)]
@@ -84,32 +81,19 @@ impl<R: Net<Listener = TcpListener, Stream = TcpStream> + Clock + Eprint> Way<'_
         Ok(())
     }
 
-    /// Writes all of a piece on the connection that stands. Where the neighbour takes nothing for a minute, the operator is told; where
-    /// it takes nothing for the circuit's `idle` seconds, that too, and the connection is broken.
+    /// Writes all of a piece on the connection that stands. Where the neighbour takes nothing for a minute, the operator is told.
     fn write_whole(&mut self, piece: &[u8]) -> io::Result<()> {
         let stop = self.patience.stop;
-        let most = most_waits(self.place.idle);
         let mut rest = piece;
-        let mut waited = 0u32;
         for _ in 0..u64::MAX {
             let Some(stream) = &mut self.stream else {
                 return Err(not_connected());
             };
-            let waits = most.saturating_sub(waited).min(MOST_WAITS);
-            let left = write_on(stream, rest, waits, stop)?;
-            if left.is_empty() {
+            rest = write_on(stream, rest, stop)?;
+            if rest.is_empty() {
                 break;
             }
-            waited = if left.len() < rest.len() {
-                waits
-            } else {
-                waited.saturating_add(waits)
-            };
-            rest = left;
             self.tell_unread();
-            if waited >= most {
-                return Err(io::Error::from(ErrorKind::TimedOut));
-            }
         }
         if self.place.idle.is_some() {
             self.written = Instant::now(self.rt).ok();
@@ -391,17 +375,16 @@ fn write_some(stream: &mut TcpStream, piece: &[u8]) -> io::Result<usize>
 }
 
 /// Writes a piece on a connection. Where a write takes a part, the next goes on behind it. Answers what was not taken: nothing, but
-/// where so many writes in turn have waited and no byte was.
+/// where the writes of a minute have waited in turn and no byte was.
 fn write_on<'a>(
     stream: &mut TcpStream,
     piece: &'a [u8],
-    most: u32,
     stop: Option<&Stop>,
 ) -> io::Result<&'a [u8]> {
     let mut rest = piece;
     let mut waits = 0u32;
     for _ in 0..u64::MAX {
-        if rest.is_empty() || waits >= most {
+        if rest.is_empty() || waits >= MOST_WAITS {
             break;
         }
         goes_on(stop)?;
@@ -422,11 +405,6 @@ fn write_on<'a>(
         }
     }
     Ok(rest)
-}
-
-/// How many writes in turn may wait in vain until a connection is broken, where the row says that.
-fn most_waits(idle: Option<u16>) -> u32 {
-    idle.map_or(u32::MAX, |seconds| u32::from(seconds) * WAITS_A_SECOND)
 }
 
 /// A third of so many seconds, in milliseconds.
