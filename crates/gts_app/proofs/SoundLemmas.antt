@@ -8,6 +8,10 @@ use Rattle.gts_record.specs.declared.fault.OpenFault.TheVariants as opening
 pub unread : {S : Type 0} {source : SourceMeanings S} {status : Status} {old new : S} → ReadsDirectory source (Err status) old new → status ≡ Done → ⊥
 unread {status = status} h is = subst IsReadEnd is (h.ends status refl)
 
+-- nor were its words wrong
+pub not_misused : {S : Type 0} {source : SourceMeanings S} {status : Status} {old new : S} → ReadsDirectory source (Err status) old new → status ≡ Usage → ⊥
+not_misused {status = status} h is = subst IsReadEnd is (h.ends status refl)
+
 pub old_unread : {S : Type 0} {source : SourceMeanings S} {status : Status} {old new : S} → ReadsOldDirectory source (Err status) old new → status ≡ Done → ⊥
 old_unread {status = status} h is = subst IsOldReadEnd is (h.ends status refl)
 
