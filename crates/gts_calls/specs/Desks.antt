@@ -1,7 +1,7 @@
 -- What a desk has seen, and what a call on it adds.
 use Rattle.std.specs.Prelude.{◌≡◌, ◌⊎◌, ℕ, ◌+◌, Bool, true, false, List, [], ◌∷◌, ◌++◌, map, Result, Ok, Err, Option}
 use Rattle.gts_calls.specs.Fed.{AddsFed}
-use Rattle.gts_calls.specs.Cited.Below.{Directory, DiskFault, Done, Doubt, Draw, Entry, Event, Full, History, Idle, IsCaused, Need, NoMemory, Outcome, Resend, SayFault, Spent, StartsWith, State, Stopped, SwitchFault, TableId, Taken, Unsaid, after, after_all, begun, entries, entries_under, frame_of_draw, outcome}
+use Rattle.gts_calls.specs.Cited.Below.{Anew, Directory, DiskFault, Done, Doubt, Draw, Entry, Event, Full, History, Idle, IsCaused, Need, NoMemory, Outcome, Resend, SayFault, Spent, StartsWith, State, Stopped, SwitchFault, TableId, Taken, Unsaid, after, after_all, begun, entries, entries_under, frame_of_draw, outcome}
 use Rattle.gts_calls.specs.declared.fed.FeedEnd.TheVariants.{Fault}
 use Rattle.gts_calls.specs.declared.fed.FeedEnd.{FeedEnd}
 
@@ -81,6 +81,14 @@ Answers old event Holds (Err (Full used need limit)) new = AddsJust old (Idle ev
 Answers old event Holds (Err (Stopped by)) new = AddsJust old (Idle event (Stopped by)) new
 Answers old event Holds (Err NoMemory) new = AddsJust old (Idle event NoMemory) new
 Answers old event Holds (Err Spent) new = IsSpent old new
+
+-- What a call adds that begins the line of circuit c anew, by its answer. It brings nothing into the journal and says nothing, so
+-- that neither can fail: it is done; or the switch stopped before, or no turn was left.
+abbrev pub BeginsAnew : (c again : ℕ) → Result (Unit {0}) SwitchFault → Seen → Seen → Type 0
+BeginsAnew c again (Ok _) old new = AddsJust old (Done (Anew c again)) new
+BeginsAnew c again (Err (Stopped by)) old new = AddsJust old (Idle (Anew c again) (Stopped by)) new
+BeginsAnew c again (Err Spent) old new = IsSpent old new
+BeginsAnew c again (Err _) old new = ⊥
 
 -- What a call adds that feeds bytes of circuit c, which ended these events, where the last message is this one. No turn is left only
 -- where one was wanted for an event.

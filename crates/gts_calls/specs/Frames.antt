@@ -1,6 +1,6 @@
 -- The frames that the entries under one name draw, one after another.
 use Rattle.std.specs.Prelude.{ℕ, ◌==◌, List, [], ◌∷◌, ◌++◌, if◌then◌else◌}
-use Rattle.gts_calls.specs.Cited.Below.{Directory, Done, Doubt, Draw, Entry, Event, Heard, Idle, Lost, Outcome, Resend, Restarted, State, Taken, Unsaid, after, after_entry, begun, frame_of_draw, outcome}
+use Rattle.gts_calls.specs.Cited.Below.{Anew, Directory, Done, Doubt, Draw, Entry, Event, Heard, Idle, Lost, Outcome, Resend, Restarted, State, Taken, Unsaid, after, after_entry, begun, frame_of_draw, outcome}
 use Rattle.gts_calls.specs.Desks.{Seen}
 
 -- the frame of a take with this outcome, which left this state: none where nothing was given
@@ -14,6 +14,7 @@ abbrev pub frame_of_event : Directory → State → Event → List ℕ
 frame_of_event d s (Heard c kind message) = []
 frame_of_event d s (Lost c field) = []
 frame_of_event d s (Taken c) = frame_of_outcome d (after d s (Taken c)) c (outcome d s (Taken c))
+frame_of_event d s (Anew c again) = []
 
 -- of an entry
 abbrev pub frame_of : Directory → State → Entry → List ℕ

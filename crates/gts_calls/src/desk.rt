@@ -1,7 +1,7 @@
 ghost use Rattle.std.specs.Prelude.{◌≡◌, ◌<◌, ◌≤◌, ℕ, List, length, take};
 ghost use Rattle.gts_calls.specs.Cited.Below.{Heard, Kind as KindType, LONGEST_MESSAGE, SwitchFault as FaultType, events_added, held_in};
 ghost use Rattle.gts_calls.specs.Fed.{Takes};
-ghost use Rattle.gts_calls.specs.Desks.{Seen, Answers, Feeds, SaysNoMore};
+ghost use Rattle.gts_calls.specs.Desks.{Seen, Answers, BeginsAnew, Feeds, SaysNoMore};
 ghost use Rattle.gts_calls.specs.Given.{frames_of, TakesSome};
 
 use crate::given::Given;
@@ -43,6 +43,12 @@ pub trait Desk {
     /// no reason. Adds nothing.
     fn rest(&mut self)
         ensures { seen self.new ≡ seen self.old };
+
+    /// The line of circuit `c` was begun anew: its last `again` draws that are kept are owed first, the oldest of them first, and
+    /// what was owed before behind them. It says nothing, and brings nothing into the journal. Takes no memory.
+    fn begin_anew(&mut self, c: u32, again: u32) -> Result<(), SwitchFault>
+        requires { c < length (seen self.old).directory.circuits }
+        ensures { BeginsAnew c again result (seen self.old) (seen self.new) };
 
     /// Takes on circuit `c`, one after another, at most as many as the circuit's row repeats: the frames that are owed or drawn there
     /// are left in `given`, and are the caller's to send. Answers whether there may be more. It says nothing, so that no saying

@@ -85,6 +85,10 @@ impl Sink for NarrowSink {
         Ok(count)
     }
 
+    fn ready(&mut self) -> bool {
+        false
+    }
+
     fn nothing_due(&mut self) -> Option<u32> {
         None
     }

@@ -1,6 +1,7 @@
 -- What an engine stands for, with the entry that a call adds.
 use Rattle.gts_circuits.proofs.Cited.{◌≡◌, ◌≢◌, ◌⊎◌, inl, inr, ⊎_elim, ℕ, ◌+◌, ◌≤◌, true, false, List, [], ◌∷◌, ◌++◌, length, Option, Some, None, Result, Ok, Err, refl, sym, ap, subst, ◌∙◌, arith, length-append, IsErrOf, IfOk, Accepted, Adds, AreCramped, Asked, Beginning, Caller, Choice, Device, Directory, DiskFault, Doubt, Draw, Draws, Duplicate, Engine, Entry, Event, Full, HasDoubt, HasStationCause, HasUnsaid, HearsWithRoom, Idle, IsAccepted, IsCalled, IsCrampedFor, Keeps, LeavesFrame, LineLost, NoMemory, Nothing, Nothing_waits, Origin, Outcome, Outside, Refused, Repeats, Resend, Rose, SayFault, Says, Spent, Stands, State, StationMeanings, Stopped, SwitchFault, Taken, Unsaid, after, after_all, channel_bytes, choice, entry_by, entry_of, frame_of_draw, meanings_of, on, origin_with, outcome, room, shown, spoken, state_at, used_at, begun, channel_bytes-on, common_steps}
 use Rattle.std.proofs.Common.{IfSome}
+use Rattle.std.specs.Prelude.{IfErr, IsOk}
 use Rattle.std.proofs.lemmas.List.{append_assoc}
 
 -- ---- the last of a list
@@ -118,6 +119,13 @@ leads_to (Repeats index) = Resend index
 leads_to (Draws index position) = Draw index
 leads_to Nothing_waits = Nothing
 
+only_stops_at : (result : Result Outcome SwitchFault) (stopped : Option Device)
+    → ((by : Device) → stopped ≡ Some by → result ≡ Err (Stopped by)) → (stopped ≡ None → IsOk result)
+    → IfErr result (λ fault. (by : Device) × (fault ≡ Stopped by))
+only_stops_at (Ok o) stopped is none = tt
+only_stops_at (Err fault) None is none = absurd (none refl)
+only_stops_at (Err fault) (Some by) is none = (by, let e = is by refl in cc e)
+
 module _ {P : Type 0} (station : StationMeanings P) (b : Beginning) where
   outcome_of : (h : List Entry) (event : Event) (result : Result Outcome SwitchFault) (old new : Engine P)
       → IsCalled (meanings_of station Caller) event result old new → Stands station b h old
@@ -167,6 +175,14 @@ module _ {P : Type 0} (station : StationMeanings P) (b : Beginning) where
         answers = λ a ok. (outcome_of h event result old new turn stands a ok, leaves a ok);
         spent = spent;
       }
+
+  -- a call that neither brings nor says anything, with nothing gathered: only an engine that stopped answers with a fault
+  pub only_stops : (h : List Entry) (result : Result Outcome SwitchFault) (old new : Engine P)
+      → IfSome old.stopped (λ (by : Device). (result ≡ Err (Stopped by)) × (new ≡ old))
+      → (old.stopped ≡ None → old.gathered ≡ false → IsOk result)
+      → Stands station b h old → IfErr result (λ fault. (by : Device) × (fault ≡ Stopped by))
+  only_stops h result old new stopped alone stands = only_stops_at result old.stopped (λ by e. (subst (λ (s : Option Device). IfSome s (λ (by : Device). (result ≡ Err (Stopped by)) × (new ≡ old))) e stopped).0)
+      (λ e. alone e stands.keeps.gathered)
 
   -- a call that makes room
   pub adds_with_room : (h : List Entry) (event : Event) (Holds : Outcome → State → Type 0) (result : Result Outcome SwitchFault) (old new : Engine P)

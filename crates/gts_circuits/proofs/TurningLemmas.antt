@@ -1,7 +1,8 @@
 -- What a turn makes of its pass.
-use Rattle.gts_circuits.proofs.Cited.{◌≡◌, inl, ℕ, ◌+◌, Bool, true, false, List, [], ◌∷◌, ◌++◌, length, replicate, Result, Ok, Err, refl, sym, ap, subst, ◌∙◌, length-append, append-nil, append_cancel_left, AddsAll, AddsAny, AddsEntries, AddsFed, AddsTaken, All, Answers, Beginning, DeskTakes, DiskFault, Done, Doubt, Engine, Entry, Event, FeedEnd, Feeds, Frame, Full, GaveAll, GaveNoMore, Idle, IsCaused, IsTurn, Known, KnowsOwn, LeavesFrame, Lost, NoMemory, Outcome, SayFault, Seen, Spent, Stands, StartsWith, State, StationMeanings, Stopped, SwitchFault, Taken, Unsaid, Wanting, after_adding, after_seeing, all_of, entries, entries_under, entry_by, flat, history_of, outcome, seen_by, state_at, takes, under}
+use Rattle.gts_circuits.proofs.Cited.{◌≡◌, inl, ℕ, ◌+◌, Bool, true, false, List, [], ◌∷◌, ◌++◌, length, replicate, Result, Ok, Err, refl, sym, ap, subst, ◌∙◌, length-append, append-nil, append_cancel_left, AddsAll, AddsAny, AddsEntries, AddsFed, AddsTaken, All, Answers, Beginning, DeskTakes, DiskFault, Done, Doubt, Engine, Entry, Event, FeedEnd, Feeds, Frame, Full, GaveAll, GaveNoMore, Idle, IsCaused, IsTurn, Known, KnowsOwn, LeavesFrame, Lost, NoMemory, Outcome, SayFault, Seen, Spent, Stands, StartsWith, State, StationMeanings, Stopped, SwitchFault, Taken, Unsaid, Wanting, after_adding, after_seeing, all_of, entries, entries_under, entry_by, flat, history_of, outcome, seen_by, state_at, takes, under, Anew, BeginsAnew, Device, IfErr, SaysNoMore}
 use Rattle.gts_circuits.specs.Cited.{TakesSome}
 use Rattle.gts_calls.specs.declared.fed.FeedEnd.TheVariants.{Fault}
+use Rattle.gts_circuits.specs.Turning.{without_outcome}
 use Rattle.gts_circuits.specs.Housed as housed
 use Rattle.gts_circuits.proofs.FlatLemmas.{entries-append, under-append, all_of_one, flat-append, flat_one, entries_flat, under_flat}
 
@@ -57,6 +58,18 @@ module _ {P : Type 0} (station : StationMeanings P) (b : Beginning)
   answers event Holds (Err (Stopped by)) adds is = added (Idle event (Stopped by) ∷ []) (λ s. Unit {0}) is adds.stands tt
   answers event Holds (Err Spent) adds is = absurd (adds.spent refl)
   answers event Holds (Err NoMemory) adds is = added (Idle event NoMemory ∷ []) (λ s. Unit {0}) is adds.stands tt
+
+  -- a line that is begun anew, where only one that stopped answers with a fault
+  pub begins : (c again : ℕ) (result : Result Outcome SwitchFault) → housed.Adds station b (all_of (entries h)) (Anew c again) SaysNoMore result new
+      → IfErr result (λ fault. (by : Device) × (fault ≡ Stopped by))
+      → q ≡ after_adding (after_seeing p h) (entry_by (Anew c again) result ∷ []) → BeginsAnew c again (without_outcome result) (seen_by b p) (seen_by b q)
+  begins c again (Ok o) adds only is = added (Done (Anew c again) ∷ []) (λ s. Unit {0}) is adds.stands tt
+  begins c again (Err (Stopped by)) adds only is = added (Idle (Anew c again) (Stopped by) ∷ []) (λ s. Unit {0}) is adds.stands tt
+  begins c again (Err DiskFault) adds only is = absurd (let e = only.1 in cc e)
+  begins c again (Err SayFault) adds only is = absurd (let e = only.1 in cc e)
+  begins c again (Err (Full used need limit)) adds only is = absurd (let e = only.1 in cc e)
+  begins c again (Err Spent) adds only is = absurd (let e = only.1 in cc e)
+  begins c again (Err NoMemory) adds only is = absurd (let e = only.1 in cc e)
 
   -- a feed, whose end is not that no turn was left
   pub feeds : (c : ℕ) (events : List Event) (message : List ℕ) (end : FeedEnd) (more : List Entry) → AddsFed c events message end more

@@ -1,6 +1,6 @@
 -- The engine as a hall's value: what it stands for, and what a call on it adds.
-use Rattle.std.specs.Prelude.{◌≡◌, refl, ◌≢◌, ℕ, ◌≤◌, Bool, true, false, List, [], ◌∷◌, ◌++◌, Result, Ok, Err, Some, IsSome}
-use Rattle.gts_circuits.specs.Cited.Below.{Caller, Directory, DiskFault, Done, Doubt, Engine, Entry, Event, Full, Gathers, HasDoubt, HasUnsaid, Idle, IsFullCompacted, IsLeft, Origin, Outcome, Rose, SayFault, Spent, Standing, State, StationMeanings, SwitchFault, Unsaid, directory_of, full, full_with_spare, nothing, outcome, shown, state_at, used_at}
+use Rattle.std.specs.Prelude.{◌≡◌, refl, ◌≢◌, ℕ, ◌≤◌, Bool, true, false, List, [], ◌∷◌, ◌++◌, Result, Ok, Err, Some, IfErr, IsSome, map}
+use Rattle.gts_circuits.specs.Cited.Below.{Caller, Device, Directory, DiskFault, Done, Doubt, Engine, Entry, Event, Full, Gathers, HasDoubt, HasUnsaid, Idle, IsFullCompacted, IsLeft, Origin, Outcome, Rose, SayFault, Spent, Standing, State, StationMeanings, Stopped, SwitchFault, Unsaid, again_of, directory_of, full, full_with_spare, nothing, outcome, shown, slice_index_or, state_at, used_at}
 use Rattle.gts_event.specs.Cited.{begun}
 
 -- What a hall's history begins with: the engine's origin, with no compaction since, the counts of its station's faults by then,
@@ -21,6 +21,11 @@ unset = record {
   makes_room = false;
   fresh = refl;
 }
+
+-- With how many of its last draws each new outgoing connection of circuit c begins: as its row says, in a service that is always there,
+-- which is one that makes room, or in another one.
+abbrev pub again_at : Beginning → ℕ → ℕ
+again_at b c = slice_index_or (map (again_of b.makes_room) b.origin.directory.circuits) c 0
 
 -- the origin, with these compactions since: for each, how many entries there were
 abbrev pub origin_with : Beginning → List ℕ → Origin
@@ -83,6 +88,10 @@ module _ {P : Type 0} (station : StationMeanings P) (b : Beginning) where
   -- a call adds its entry, whatever the entries are for which the engine stood
   abbrev pub Turns : Event → (Outcome → State → Type 0) → Result Outcome SwitchFault → (old new : Engine P) → Type 0
   Turns event Holds result old new = (entries : List Entry) → Stands entries old → Adds entries event Holds result new
+
+  -- only an engine that stopped before answers with a fault, whatever the entries are for which it stood
+  abbrev pub OnlyStops : Result Outcome SwitchFault → Engine P → Type 0
+  OnlyStops result old = (entries : List Entry) → Stands entries old → IfErr result (λ fault. (by : Device) × (fault ≡ Stopped by))
 
   -- an answer that never comes, whatever the entries are for which the engine stood
   abbrev pub Never : SwitchFault → Result Outcome SwitchFault → Engine P → Type 0

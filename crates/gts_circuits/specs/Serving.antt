@@ -3,7 +3,7 @@ use Rattle.std.specs.Prelude.{◌≡◌, ◌⊎◌, ℕ, ◌+◌, ◌*◌, ◌<�
 use mathlib.Core.Option.{some}
 use lib.ListN.{get_elem?}
 use Rattle.gts_circuits.specs.Cited.Below.{AreOver, Circuit, CircuitBytes, Directory, DiskFault, Engine, Entry, Event, GoesThrough, HasParts, IsFront, Known, LineFault, LineStood, LinesMeanings, LostSync, MOST_TURNS, Part, PlaceSeen, Quiet, ReceiveEnd, Receives, Rose, SayFault, Seen, SendEnd, Sends, SourceFault, SourceMeanings, StartsWith, StationMeanings, SwitchFault, TableId, Taken, WentThroughAll, after, all_done, entries, entries_under, events_over, fault_entries, frame_of_draw, frames, given_index, goes_on, ipv4_octets, is_try, most_beside, on_circuit, outcome, state_at, takes, waiting}
-use Rattle.gts_circuits.specs.Housed.{Beginning, Stands}
+use Rattle.gts_circuits.specs.Housed.{Beginning, Stands, again_at}
 use Rattle.gts_receiver.specs.declared.end.ReceiveEnd.TheVariants.{Ended, Fault}
 use Rattle.gts_circuits.specs.Gathering.{NamesAreUpTo}
 use Rattle.gts_event.specs.Cited.{begun}
@@ -148,7 +148,7 @@ pub record IsSent (b : Beginning) (threads : List (ℕ × List Entry)) (history 
   pub full : Bool
   pub upto : List (ℕ × Entry)
   pub within : EndsWithin threads history (sender_name c) full upto
-  pub sent : Sends c (fresh b hall (sender_name c)) (seen_at b hall (sender_name c) turns full upto) bytes end
+  pub sent : Sends c (again_at b c) (fresh b hall (sender_name c)) (seen_at b hall (sender_name c) turns full upto) bytes end
 
 -- Of the events of some connections, those before one were done, and that one was answered with this fault, with those beside it in
 -- the same turn where a device failed. The tries of a service (w) are left out, and its receiver doesn't end with one.

@@ -3,7 +3,7 @@ use Rattle.std.specs.Prelude.{◌≡◌, ℕ, ◌<◌, ◌≤◌, Bool, true, fa
 use mathlib.Core.Option.{some}
 use lib.ListN.{get_elem?}
 use Rattle.gts_circuits.specs.Cited.Below.{AreOver, Begun, CountsSockets, Engine, Entry, Ghosts as SinkMeanings, GoesThrough, HasParts, LineFault, LineStood, Nothing, Part, PlaceSeen, Quiet, Seen, SendEnd, Sending, Sends, SinkTook, SourceFault, SourceMeanings, StationMeanings, TableId, Taken, Tried, WentThroughAll, entries, first_connection, outcome, state_at}
-use Rattle.gts_circuits.specs.Housed.{Beginning, Stands}
+use Rattle.gts_circuits.specs.Housed.{Beginning, Stands, again_at}
 use Rattle.gts_receiver.specs.declared.end.ReceiveEnd.TheVariants.{Ended}
 use Rattle.gts_circuits.specs.declared.workers.line.Line.{Line}
 use Rattle.gts_circuits.specs.declared.workers.sockets.Sockets.{Sockets}
@@ -102,7 +102,7 @@ module _ {P : Type 0} (station : StationMeanings P) (b : Beginning) where
     pub added : List (ℕ × Entry)
     pub named : AreTakes c added
     pub stands : Stands station b (entries (past ++ added)) new
-    pub sends : (first : Seen) (sent : List ℕ) → Sending c first (sender_at b hall c full past) sent
+    pub sends : (first : Seen) (sent : List ℕ) → Sending c (again_at b c) first (sender_at b hall c full past) sent
         → Comes first (sender_at b hall c full (past ++ added)) (sent ++ bytes)
 
   -- whatever history the engine stood for
@@ -113,13 +113,13 @@ module _ {P : Type 0} (station : StationMeanings P) (b : Beginning) where
 
   -- what one take came to, and all of them
   abbrev pub TakesOnce : ℕ → List ℕ → Result Bool SendEnd → (old new : Engine P) → Type 0
-  TakesOnce c bytes result old new = TakesMore (λ first seen sent. Tried c first seen sent result) c bytes old new
+  TakesOnce c bytes result old new = TakesMore (λ first seen sent. Tried c (again_at b c) first seen sent result) c bytes old new
 
   abbrev pub TakesSome : ℕ → List ℕ → (old new : Engine P) → Type 0
-  TakesSome c bytes old new = TakesMore (Sending c) c bytes old new
+  TakesSome c bytes old new = TakesMore (Sending c (again_at b c)) c bytes old new
 
   abbrev pub TakesAll : ℕ → List ℕ → SendEnd → (old new : Engine P) → Type 0
-  TakesAll c bytes end old new = TakesMore (λ first seen sent. Sends c first seen sent end) c bytes old new
+  TakesAll c bytes end old new = TakesMore (λ first seen sent. Sends c (again_at b c) first seen sent end) c bytes old new
 
 module _ {P K : Type 0} (station : StationMeanings P) (b : Beginning)
     (outgoing : SinkMeanings K) where

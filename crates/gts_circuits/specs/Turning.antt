@@ -1,5 +1,5 @@
 -- What a pass has seen, as a desk.
-use Rattle.std.specs.Prelude.{◌≡◌, ℕ, ◌∷◌, [], ◌++◌, List, length, Result}
+use Rattle.std.specs.Prelude.{◌≡◌, ℕ, ◌∷◌, [], ◌++◌, List, length, Result, Ok, Err}
 use Rattle.gts_circuits.specs.Cited.Below.{AddsFed, Answers, Decoding, Engine, Entry, Event, FeedEnd, Known, LeavesFrame, Outcome, Seen, StartsWith, State, Step, SwitchFault, Taken, after_adding, after_seeing, entries, entries_under, events_added}
 use Rattle.gts_traits.specs.declared.station.Station.{Ghosts as StationMeanings}
 use Rattle.gts_calls.specs.Cited.{Reads}
@@ -64,3 +64,8 @@ pub record AddsFor {P : Type 0} (station : StationMeanings P) (b : Beginning) (f
   pub are : (before : List ℕ) → Reads before f.begun f.step f.start → events_added f.c before f.taken ≡ events
   pub added : AddsFed f.c events f.message f.end more
   pub stands : Stands station b (all_of (entries history) ++ more) engine
+
+-- whether a call was done, without what it led to
+abbrev pub without_outcome : Result Outcome SwitchFault → Result (Unit {0}) SwitchFault
+without_outcome (Ok o) = Ok tt
+without_outcome (Err fault) = Err fault

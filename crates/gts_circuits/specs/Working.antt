@@ -1,6 +1,6 @@
 -- What a worker keeps.
 use Rattle.std.specs.Prelude.{◌≡◌, ℕ, ◌+◌, ◌*◌, ◌<◌, ◌≤◌, Bool, true, false, List, [], length, slice_index_or, Option, Some, None}
-use Rattle.gts_circuits.specs.Housed.{Beginning}
+use Rattle.gts_circuits.specs.Housed.{Beginning, again_at}
 use Rattle.gts_circuits.specs.Cited.Below.{Entry, Ghosts as SinkMeanings, GivesOver, GoesThrough, HasLineCause, HasReadCause, Known, Part, ReceiveEnd, Receives, Seen, SendEnd, Sends, SinkTook, SourceMeanings, TableId, WentThroughAll}
 use Rattle.gts_circuits.specs.Turning.{KnowsOwn, seen_by}
 use Rattle.gts_receiver.specs.declared.end.ReceiveEnd.TheVariants.{Ended}
@@ -86,9 +86,9 @@ module _ {S : Type 0} (incoming : SourceMeanings S) where
 
 module _ {K : Type 0} (outgoing : SinkMeanings K) where
   -- How a sender ended, by its sink at first and now, and by what its desk had seen and has seen.
-  pub record SenderKeeps (c : ℕ) (first now : K) (old new : Seen) (end : SendEnd) : Type 0 where
+  pub record SenderKeeps (c again : ℕ) (first now : K) (old new : Seen) (end : SendEnd) : Type 0 where
     pub bytes : List ℕ
-    pub sent : Sends c old new bytes end
+    pub sent : Sends c again old new bytes end
     pub told : SinkTook outgoing first now bytes
     pub cause : HasLineCause outgoing end first now
 
@@ -101,7 +101,7 @@ module _ (b : Beginning) {S K : Type 0} (incoming : SourceMeanings S) (outgoing 
       ReceiverKeeps incoming c many first now (fresh b hall (receiver_name c)) seen end
   LineKeeps c hall (Writes first) (Outgoing now given None) seen = (now ≡ first) × (seen ≡ fresh b hall (sender_name c))
   LineKeeps c hall (Writes first) (Outgoing now given (Some end)) seen =
-      SenderKeeps outgoing c first now (fresh b hall (sender_name c)) seen end
+      SenderKeeps outgoing c (again_at b c) first now (fresh b hall (sender_name c)) seen end
   LineKeeps c hall (Reads many first) (Outgoing now given end) seen = ⊥
   LineKeeps c hall (Writes first) (Incoming now connections decoder end) seen = ⊥
 

@@ -1,5 +1,5 @@
 -- The running numbers follow a history, entry by entry.
-use Rattle.gts_count.proofs.Cited.{◌≡◌, ℕ, suc, ◌+◌, ◌<◌, ◌≤◌, Bool, true, false, ◌&&◌, ◌==◌, cond, inl, inr, List, [], ◌∷◌, ◌++◌, length, get_or, set, map, Option, Some, refl, sym, ap, subst, ◌∙◌, arith, IsTrue, Accepted, All, Asked, Buffer, Bulletin, Choice, Circuit, CircuitState, Directory, Done, Draw, Draws, Duplicate, Event, Follows, Heard, IsHeld, Kind, LineLost, Notes, NotesDraw, Nothing, Nothing_waits, Numbers, Outcome, Prepares, Recent, Refused, Repeats, Resend, Restarted, SameNeed, State, Taken, Tally, after, after_heard, after_take, arrived, body_of, choice, circuit_of_event, drawn_of, find, has, has_row, heading_of_message, heard_of, is_here, is_there, joined, keep_last, kept_with, key_at, key_of, last_counted, list_all, named, need, no_ring, on_circuit, outcome, recent, recent_in, recent_of, restarted, ring_at, takens_of, tally, tally_at, tally_of, with_drawn, with_bulletin, true≢false, lt-ltb, or_cases, get_or-map, set-get_or, map-set, length-map, All-append, after-same, outcome-same, restarted-same, held-all, list_all-has, draw_position, next_waits, waiting_routed, accepted_position, common_steps}
+use Rattle.gts_count.proofs.Cited.{◌≡◌, ℕ, suc, ◌+◌, ◌<◌, ◌≤◌, Bool, true, false, ◌&&◌, ◌==◌, cond, inl, inr, List, [], ◌∷◌, ◌++◌, length, get_or, set, map, Option, Some, refl, sym, ap, subst, ◌∙◌, arith, IsTrue, Accepted, All, Asked, Buffer, Bulletin, Choice, Circuit, CircuitState, Directory, Done, Draw, Draws, Duplicate, Event, Follows, Heard, IsHeld, Kind, LineLost, Notes, NotesDraw, Nothing, Nothing_waits, Numbers, Outcome, Prepares, Recent, Refused, Repeats, Resend, Restarted, SameNeed, State, Taken, Tally, after, after_heard, after_take, arrived, body_of, choice, circuit_of_event, drawn_of, find, has, has_row, heading_of_message, heard_of, is_here, is_there, joined, keep_last, kept_with, key_at, key_of, last_counted, list_all, named, need, no_ring, on_circuit, outcome, recent, recent_in, recent_of, restarted, ring_at, takens_of, tally, tally_at, tally_of, with_drawn, with_bulletin, true≢false, lt-ltb, or_cases, get_or-map, set-get_or, map-set, length-map, All-append, after-same, outcome-same, restarted-same, held-all, list_all-has, draw_position, next_waits, waiting_routed, accepted_position, common_steps, Anew}
 use Rattle.gts_count.proofs.WindowLemmas.{counts_window, joins_window}
 use Rattle.gts_count.proofs.StateLemmas.{tally-need, tally_is, takens-routed, takens-same, takens-restarted, drawn-drew, drawn-more}
 use Rattle.gts_count.proofs.StepLemmas.{held_window, joined_last}
@@ -64,6 +64,16 @@ pub follows_taken : (d : Directory) (s : State) (n : Numbers) (c : ℕ) → c < 
 follows_taken d s n c here f none =
     follows_on d s (after d s (Taken c)) n f (after d f.state (Taken c)) (after-same d s f.state (Taken c) f.same) (held-all d f.state (Done (Taken c) ∷ []) f.keeps (here_of d (Taken c) here) f.held)
     (quiet_take f.state c (choice d f.state c) (λ i p e. none i (outcome-same d s f.state (Taken c) f.same ∙ ap told_by e)))
+
+-- a line that is begun anew
+quiet_anew : (d : Directory) (t : State) (c again : ℕ) → Quiet t (after d t (Anew c again))
+quiet_anew d t c again = grind (arith, common_steps, takens-same)
+
+pub follows_anew : (d : Directory) (s : State) (n : Numbers) (c again : ℕ) → c < length d.circuits → Follows d s n → Follows d (after d s (Anew c again)) n
+follows_anew d s n c again here f =
+    let event : Event = Anew c again in
+    follows_on d s (after d s event) n f (after d f.state event) (after-same d s f.state event f.same) (held-all d f.state (Done event ∷ []) f.keeps (here_of d event here) f.held)
+    (quiet_anew d f.state c again)
 
 pub follows_restarted : (d : Directory) (s : State) (n : Numbers) → Follows d s n → Follows d (restarted d s) n
 follows_restarted d s n f =

@@ -1,7 +1,7 @@
 -- What a take leads to, a loss, and an opening of the journal, beside the numbers.
-use Rattle.gts_count.proofs.Cited.{◌≡◌, ℕ, zero, suc, ◌+◌, ◌<◌, Bool, true, false, ◌&&◌, ◌==◌, cond, List, [], ◌∷◌, ◌++◌, length, get_or, map, Option, Some, None, Result, Ok, Err, slice_get, refl, sym, ap, ◌∙◌, arith, IsTrue, Accepted, AfterHeard, AfterTaken, Asked, Bulletin, Circuit, Counting, Counts, Directory, DiskFault, Draw, Duplicate, Entry, Follows, FrameField, Full, GoesOn, IsDrawn, IsTold, Knows, LineLost, Lost, NoMemory, Nothing, OpenFault, Outcome, Refused, Resend, Restarted, SayFault, Spent, State, Stopped, SwitchFault, Taken, after, after_all, choice, digits_on, find, has_row, is_bulletin, key_of, key_of_frame, list_all, numbered_frame, on, outcome, restart_of, restarted, spoken, true≢false, length-map, outcome-same, spoken-same, bulletin-parts}
+use Rattle.gts_count.proofs.Cited.{◌≡◌, ℕ, zero, suc, ◌+◌, ◌<◌, Bool, true, false, ◌&&◌, ◌==◌, cond, List, [], ◌∷◌, ◌++◌, length, get_or, map, Option, Some, None, Result, Ok, Err, slice_get, refl, sym, ap, ◌∙◌, arith, IsTrue, Accepted, AfterHeard, AfterTaken, Asked, Bulletin, Circuit, Counting, Counts, Directory, DiskFault, Draw, Duplicate, Entry, Follows, FrameField, Full, GoesOn, IsDrawn, IsTold, Knows, LineLost, Lost, NoMemory, Nothing, OpenFault, Outcome, Refused, Resend, Restarted, SayFault, Spent, State, Stopped, SwitchFault, Taken, after, after_all, choice, digits_on, find, has_row, is_bulletin, key_of, key_of_frame, list_all, numbered_frame, on, outcome, restart_of, restarted, spoken, true≢false, length-map, outcome-same, spoken-same, bulletin-parts, Anew}
 use Rattle.gts_count.proofs.KeyLemmas.{key_frame, draw_says, said_bytes}
-use Rattle.gts_count.proofs.FollowLemmas.{follows_taken, follows_restarted, follows_drawn, drawn_there, choice_is}
+use Rattle.gts_count.proofs.FollowLemmas.{follows_taken, follows_anew, follows_restarted, follows_drawn, drawn_there, choice_is}
 use Rattle.gts_count.proofs.CountingLemmas.{circuits_of, carried, carried_by, all_rest, same_after, outdated_after, counts_more}
 
 all_found : (f g : Bulletin → Bool) (bs : List Bulletin) (b : Bulletin) → list_all f bs ≡ true → find g bs ≡ Some b → f b ≡ true
@@ -80,6 +80,27 @@ module _ (d : Directory) (s : State) (h : List Entry) (old new : Counting) where
   counts_lost c field (Err DiskFault) noted counts = outdated_after old new noted
   counts_lost c field (Err SayFault) noted counts = outdated_after old new noted
   counts_lost c field _ noted counts = same_after d s h old new noted counts
+
+  -- a line that is begun anew changes only what is owed
+  module _ (c again : ℕ) (here : c < length d.circuits) where
+    anew_after : new ≡ old → Counts d s h old → Counts d (after d s (Anew c again)) h new
+    anew_after same counts =
+        same_after d (after d s (Anew c again)) h old new same
+        (carried d s (after d s (Anew c again)) h old old (all_rest old)
+        (λ current f. follows_anew d s old.numbers c again here f) counts)
+
+    pub counts_anew : (result : Result Outcome SwitchFault) → AfterHeard None result old new → Counts d s h old → GoesOn d s h (Anew c again) result new
+    counts_anew (Ok (Accepted p n)) noted counts = anew_after noted counts
+    counts_anew (Ok (Duplicate p)) noted counts = anew_after noted counts
+    counts_anew (Ok (Asked a b)) noted counts = anew_after noted counts
+    counts_anew (Ok (Refused r)) noted counts = anew_after noted counts
+    counts_anew (Ok (LineLost f)) noted counts = anew_after noted counts
+    counts_anew (Ok (Resend i)) noted counts = anew_after noted counts
+    counts_anew (Ok (Draw i)) noted counts = anew_after noted counts
+    counts_anew (Ok Nothing) noted counts = anew_after noted counts
+    counts_anew (Err DiskFault) noted counts = outdated_after old new noted
+    counts_anew (Err SayFault) noted counts = outdated_after old new noted
+    counts_anew _ noted counts = same_after d s h old new noted counts
 
   -- the journal was opened again, or it wasn't
   pub counts_restarted : (result : Result (Unit {0}) OpenFault) → Counts d s h old → Counts d (after_all d s (restart_of result)) (h ++ restart_of result) old

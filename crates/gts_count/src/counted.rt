@@ -1,7 +1,7 @@
 ghost use Rattle.std.specs.Prelude.{◌≡◌};
 ghost use Rattle.gts_count.specs.Numbers.{IsSound};
 
-use crate::steps::{compact, hear, leave, lose, restart, settle, take};
+use crate::steps::{begin_anew, compact, hear, leave, lose, restart, settle, take};
 use crate::text::table;
 use crate::{CountedParts, Counting};
 use gts_alphabet::NoMemory;
@@ -52,6 +52,10 @@ impl<T: Switch> Switch for Counted<T> {
 
     fn take(&mut self, c: u32, out: &mut FrameBuf) -> Result<Outcome, SwitchFault> {
         take(&mut self.parts, c, out)
+    }
+
+    fn begin_anew(&mut self, c: u32, again: u32) -> Result<Outcome, SwitchFault> {
+        begin_anew(&mut self.parts, c, again)
     }
 
     fn settle(&mut self) -> Result<(), SwitchFault> {

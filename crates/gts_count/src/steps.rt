@@ -1,6 +1,6 @@
 //! The calls of a switch, each passed on, and its outcome noted.
 ghost use Rattle.std.specs.Prelude.{◌≡◌, ◌<◌, ◌≤◌, length};
-ghost use Rattle.gts_count.specs.Cited.{AfterSettled, CountsCall, CountsReopening, Heard, IsAnswered, IsCompacting, IsReopening, IsSettling, IsSound, LONGEST_MESSAGE, LeavesFrame, Lost, MayLeave, Taken, counted_meanings};
+ghost use Rattle.gts_count.specs.Cited.{AfterSettled, Anew, CountsCall, CountsReopening, Heard, IsAnswered, IsCompacting, IsReopening, IsSettling, IsSound, LONGEST_MESSAGE, LeavesFrame, Lost, MayLeave, Taken, counted_meanings};
 
 use crate::CountedParts;
 use crate::counting::{note_heard, note_taken, ready};
@@ -56,6 +56,24 @@ pub fn lose<T: Switch>(
     ensures cause { CountsCall T.Switch result parts.old.switch parts.new.switch }
 {
     let answer = parts.switch.lost(c, field);
+    note_heard(&mut parts.counting, None, answer);
+    answer
+}
+
+/// A circuit's line was begun anew, which changes no numbers. Takes no memory.
+pub fn begin_anew<T: Switch>(
+    parts: &mut CountedParts<T>,
+    c: u32,
+    again: u32,
+) -> Result<Outcome, SwitchFault>
+    requires circuit { c < length (T.meanings.directory parts.old.switch).circuits }
+    requires sound { IsSound parts.old.counting.numbers }
+    ensures called { IsAnswered (counted_meanings T.meanings) (Anew c again) result
+        parts.old parts.new }
+    ensures sound { IsSound parts.new.counting.numbers }
+    ensures cause { CountsCall T.Switch result parts.old.switch parts.new.switch }
+{
+    let answer = parts.switch.begin_anew(c, again);
     note_heard(&mut parts.counting, None, answer);
     answer
 }

@@ -11,4 +11,4 @@ pub use Rattle.std.proofs.lemmas.List.Folds.{list_any-append}
 pub use Rattle.std.proofs.lemmas.Nat.{div-add-mod', one_shl, ones_cat, or_comm, or_shifted, pow-add, shr-shr}
 pub use Rattle.std.proofs.lemmas.Nat.Bits.{bit_at-lt, bit_at-pow_other, bit_at-pow_same, bit_at-suc, bit_at-trailing_zeros, bit_at-zero, bit_at_above, bit_at_and, bit_at_cat_high, bit_at_cat_low, bit_at_lowest, bit_at_not, bit_at_or, same_from_bits}
 pub use Rattle.std.proofs.lemmas.Option.{none-some}
-pub use Rattle.gts_directory.specs.Cited.{All, AreCharacters, BLANK, BeginWith, Change, Circuit, CircuitRow, DirFault, Directory, HIGHEST_PORT, HeadingFields, IsCharacter, IsCount, IsTable, KeepsPlace, LONGEST_IDLE, LOWEST_LEVEL, LevelRow, MOST_CIRCUITS, MOST_REPEAT, Rows, Rule, RuleRow, TakesOver, agrees, allows, bit, bit_at, bit_not, bits_of, cell_of, cells_of, change_in, circuit_fault, circuit_of_row, closed_circuit, dec, directory_of_rows, fields_of, first_change, first_changed, first_fault, first_of, first_row, fitting, has_bit, have_one_peer, is_count, is_idle, is_named, is_within, joined, keeps_place, level_fault, level_in, level_of_row, list_all, list_any, marked, mask_of, matches, meet, most_kept, named, option_or, pointwise, range_with_len, row_keeps_place, rule_of_row, suffix_len, too_many, top_stays, trailing_zeros, unknown_circuit, unless, w64}
+pub use Rattle.gts_directory.specs.Cited.{All, AreCharacters, BLANK, BeginWith, Change, Circuit, CircuitRow, DirFault, Directory, HIGHEST_PORT, HeadingFields, IsCharacter, IsCount, IsTable, KeepsPlace, LONGEST_IDLE, LOWEST_LEVEL, LevelRow, MOST_CIRCUITS, MOST_REPEAT, Rows, Rule, RuleRow, TakesOver, agrees, allows, bit, bit_at, bit_not, bits_of, cell_of, cells_of, change_in, circuit_fault, circuit_of_row, closed_circuit, dec, directory_of_rows, fields_of, first_change, first_changed, first_fault, first_of, first_row, fitting, has_bit, have_one_peer, is_again, is_count, is_idle, is_named, is_within, joined, keeps_place, level_fault, level_in, level_of_row, list_all, list_any, marked, mask_of, matches, meet, most_kept, named, option_or, pointwise, range_with_len, row_keeps_place, rule_of_row, suffix_len, too_many, top_stays, trailing_zeros, unknown_circuit, unless, w64}

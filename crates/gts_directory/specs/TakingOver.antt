@@ -20,8 +20,8 @@ BeginWith Stays (row ∷ old) (new ∷ rows) = Stays row new × BeginWith Stays 
 
 -- A directory takes over from an old one: what a journal of the old one has come to can go on under it. The circuits keep their
 -- places, and circuits may be added behind them. All else may be other: the rules, the level rows, the window, the limit and the
--- address, and of a circuit what it keeps, its digits, its ports and host, its idle time and repeat, and whether
--- it is closed.
+-- address, and of a circuit what it keeps, its digits, its ports and host, its idle time and repeat, what comes again on a new
+-- connection, and whether it is closed.
 pub record TakesOver (new old : Directory) : Type 0 where
   pub centre : new.centre ≡ old.centre
   pub circuits : BeginWith KeepsPlace old.circuits new.circuits

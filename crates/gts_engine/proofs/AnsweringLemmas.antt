@@ -1,5 +1,5 @@
 -- Calls over the parts of an engine: room is made, an event enters, and it is told.
-use Rattle.gts_engine.proofs.Cited.{◌≡◌, ◌≤◌, ◌++◌, ◌∷◌, if◌then◌else◌, Bool, true, false, inl, inr, ℕ, List, [], length, Option, Some, None, Result, Ok, Err, refl, sym, ap, subst, ◌∙◌, arith, IfErr, IfNone, IfOk, IfSome, OnOk, ◌<◌, AsksOutput, AnswersIn, Core, Device, Directory, DiskFault, Engine, EngineParts, Event, Full, HasCallCause, HasEntered, HasStationCause, HasTold, Holds, IsAnswered, IsDeviceFault, IsSound, LeavesCall, MOST_TOGETHER, MayHaveSettled, NoMemory, Outcome, Outside, SayFault, SayMode, Spent, State, StationMeanings, Stopped, SwitchFault, by_station, bytes_wanted, engine_of, held_pieces, joined, meanings_of, most_drawn, on, outcome, spoken, stopped_after, common_steps}
+use Rattle.gts_engine.proofs.Cited.{◌≡◌, ◌≤◌, ◌++◌, ◌∷◌, if◌then◌else◌, Bool, true, false, inl, inr, ℕ, List, [], length, Option, Some, None, Result, Ok, Err, refl, sym, ap, subst, ◌∙◌, arith, IfErr, IfNone, IfOk, IfSome, OnOk, ◌<◌, AsksOutput, AnswersIn, Core, Device, Directory, DiskFault, Engine, EngineParts, Event, HasCallCause, HasEntered, HasStationCause, HasTold, Holds, IsAnswered, IsDeviceFault, IsSound, LeavesCall, MOST_TOGETHER, MayHaveSettled, Outcome, Outside, SayFault, SayMode, State, StationMeanings, Stopped, SwitchFault, by_station, bytes_wanted, engine_of, held_pieces, joined, meanings_of, most_drawn, on, outcome, spoken, stopped_after, common_steps}
 use Rattle.std.proofs.Common.{slice_index_or}
 use Rattle.gts_engine.proofs.TurnLemmas.{goes_on}
 use Rattle.gts_engine.proofs.AnswerLemmas.{EachHeld, answered, stopped_leaves}
@@ -40,6 +40,11 @@ module _ {P : Type 0} (station : StationMeanings P) (result : Result (Unit {0}) 
   pub may_ok : MayHaveSettled station result old mid → (engine_of old).gathered ≡ false → result ≡ Ok tt
   may_ok (inl same) none = same.0
   may_ok (inr settled) none = (settled.nothing none).0
+
+  -- and all is as it was
+  pub may_same : MayHaveSettled station result old mid → (engine_of old).gathered ≡ false → mid ≡ old
+  may_same (inl same) none = same.1
+  may_same (inr settled) none = (settled.nothing none).1
 
   -- where nothing was gathered, nothing is held
   pub may_quiet : MayHaveSettled station result old mid → IsSound station old → (engine_of old).gathered ≡ false → (engine_of mid).held ≡ []

@@ -1,5 +1,5 @@
 -- What was gathered is brought into the journal: what that leaves of the parts of an engine.
-use Rattle.gts_engine.proofs.Cited.{◌≡◌, ◌<◌, false, inl, inr, ⊎_elim, ℕ, List, [], ◌∷◌, ◌++◌, length, take, Option, Some, None, Result, Ok, Err, OnOk, IfErr, refl, sym, ap, subst, ◌∙◌, Accepted, AfterSettling, Asked, Brings, Call, Choice, Device, Directory, DiskFault, Draw, Draws, Duplicate, EachSince, Engine, Entry, Event, FailsAt, Files, Full, Gathered, Gathers, HasFailed, HasRecord, Heard, InHand, IsCutShort, IsDeviceFault, IsFront, IsGathering, IsImage, Kind, LineLost, Lost, Need, NoMemory, Nothing, Nothing_waits, OpenFault, OpensBetween, Origin, Outcome, Outside, Refused, Repeats, Resend, SaidSince, Say, SayFault, SayMode, SaysBy, Shown, Spent, Standing, StandsFor, State, StationMeanings, Stopped, SwitchFault, Taken, after_records, all_done, by_station, choice, event_record, heard_record, joined, meanings_of, need, opens, outcome, pieces, restarted, said, said_by, shown, slice_index_or, stable, state_at, state_behind, stopped_after, taken_record, weaker, images_open}
+use Rattle.gts_engine.proofs.Cited.{◌≡◌, ◌<◌, false, inl, inr, ⊎_elim, ℕ, List, [], ◌∷◌, ◌++◌, length, take, Option, Some, None, Result, Ok, Err, OnOk, IfErr, refl, sym, ap, subst, ◌∙◌, Accepted, AfterSettling, Brings, Call, Choice, Device, Directory, DiskFault, Draw, Draws, EachSince, Engine, Entry, Event, FailsAt, Files, Gathered, Gathers, HasFailed, HasRecord, Heard, InHand, IsCutShort, IsDeviceFault, IsFront, IsGathering, IsImage, Kind, Lost, Need, OpenFault, OpensBetween, Origin, Outcome, Outside, SaidSince, Say, SayFault, SayMode, SaysBy, Shown, Standing, StandsFor, State, StationMeanings, SwitchFault, Taken, after_records, all_done, by_station, choice, event_record, heard_record, joined, meanings_of, need, opens, outcome, pieces, restarted, said, said_by, shown, slice_index_or, stable, state_at, state_behind, stopped_after, taken_record, weaker, images_open, Anew}
 use Rattle.gts_engine.proofs.EntryLemmas.{only_itself}
 use Rattle.gts_engine.proofs.GoingLemmas.{opened_same}
 use Rattle.gts_engine.proofs.TakingLemmas.{outcome_by}
@@ -19,6 +19,7 @@ pub record_has : (d : Directory) (s : State) (event : Event) → (event_record d
 record_has d s (Heard circuit kind message) some = heard_has circuit kind message (outcome d s (Heard circuit kind message)) some
 record_has d s (Lost circuit field) some = absurd (some refl)
 record_has d s (Taken circuit) some = taken_has circuit (choice d s circuit) some
+record_has d s (Anew circuit again) some = absurd (some refl)
 
 -- what was on the disk at the last sync is an image
 pub stable_image : (calls : List Call) → IsImage calls (stable calls)

@@ -1,5 +1,5 @@
 -- Calls that gather, and settle behind it.
-use Rattle.gts_engine.proofs.Cited.{◌≡◌, ℕ, Option, Some, None, Result, Ok, Err, refl, sym, ap, subst, ◌∙◌, IfErr, IfSome, Device, DiskFault, Engine, Event, Full, HasCallCause, IsAnswered, IsCalled, IsDeviceFault, IsIdleAnswer, IsSettling, NoMemory, Outcome, SayFault, SayMode, Spent, StationMeanings, Stopped, SwitchFault, meanings_of, stopped_after, common_steps, arith}
+use Rattle.gts_engine.proofs.Cited.{◌≡◌, ℕ, Option, Some, None, Result, Ok, Err, refl, sym, ap, subst, ◌∙◌, IfErr, IfSome, Device, DiskFault, Engine, Event, HasCallCause, IsAnswered, IsCalled, IsDeviceFault, IsIdleAnswer, IsSettling, Outcome, SayFault, SayMode, StationMeanings, Stopped, SwitchFault, meanings_of, stopped_after, common_steps, arith}
 use Rattle.gts_engine.proofs.AnswerLemmas.{called_failed, called_unsettled, called_done}
 use Rattle.gts_engine.proofs.AnsweringLemmas.{NoDevice, cause_then, cause_alike, cause_none}
 

@@ -17,5 +17,5 @@ pub use Rattle.gts_message.proofs.LawLemmas.{split_takes}
 pub use Rattle.gts_opening.proofs.LawLemmas.{begun-unowed, caused-compaction, caused-entry, caused-nothing, compacted_opened, due-left, file_opens-checkpoint, follows, opened-begins, opened-sound, opened_again, passes, room_for, selected_few}
 pub use Rattle.gts_recovery.proofs.LawLemmas.{closed_there, due-waiting, still_stands}
 pub use Rattle.gts_traits.proofs.LawLemmas.{SaidSince-refl, channel_bytes-append, channel_bytes-on, channel_bytes-on_other, on-append, said_is, started, weaker}
-pub use Rattle.gts_engine.specs.Cited.{Accept, Accepted, AfterCall, AfterSettling, AllByRecursion, Alone, An, AnswersFull, AnswersIn, AreAnchors, AreGathered, AreNext, AreSayings, Asked, AsksOutput, AtOnce, BeginsWithRecord, Behind, Bi, Brings, BringsAndSays, Call, Caller, Cause, Choice, Circuit, CircuitState, Core, Device, Did, Directory, Disk, DiskFault, Done, Doubt, Draw, Draws, Drew, Duplicate, EachRoom, EachRoutedOnce, EachSince, Engine, EngineParts, Enters, Entry, Event, FailsAt, FaultCause, Files, FitsRecord, Follows, FrameField, Full, Fx, Gathered, Gathers, GathersOne, GivesOrMemory, GivesRoom, HadRoomFor, HasBrought, HasCallCause, HasDoubt, HasEntered, HasFailed, HasFewDraws, HasNoRecord, HasOnlySettled, HasPositions, HasRead, HasRecord, HasReopenCause, HasRoom, HasSaid, HasSettled, HasStationCause, HasTold, HasUnsaid, HasWritten, HeadingFields, Heard, History, Holds, Idle, InHand, IsAccepted, IsAnchor, IsAnswer, IsAnswerCause, IsAnswered, IsBehind, IsBlock, IsCalled, IsCause, IsCaused, IsClosedAt, IsCompactCause, IsCompactFault, IsCompacting, IsCompaction, IsCutShort, IsDeviceFault, IsFound, IsFree, IsFront, IsFullCompacted, IsFullEither, IsFullFault, IsGatheredWithRoom, IsGathering, IsGoing, IsHeardWithRoom, IsHeld, IsIdle, IsIdleAnswer, IsIdleFault, IsImage, IsLeft, IsLeftNow, IsNew, IsNoBulletin, IsOneMore, IsOpened, IsReading, IsReady, IsReopenFault, IsReopening, IsRewritten, IsRoomFault, IsSettling, IsSizeAt, IsSound, IsStep, IsUnchanged, IsWithin, IsWriteFault, Judged, Judges, Keeps, Kind, LONGEST_BODY, LONGEST_FRAME, LeavesBoth, LeavesCall, LeavesFrame, LeavesFront, LeavesOthers, LeavesReading, LeavesWhole, Leaving, LineLost, Lost, MOST_CIRCUITS, MOST_GATHERED, MOST_REPEAT, MOST_TOGETHER, MayBring, MayHaveSettled, MayLeave, MayLeaveAlong, MayStand, MessageField, MessageParts, Need, Needs, NeedsHeading, NewBulletin, NoMemory, Nothing, Nothing_waits, ObservedOrigin, OnlyBrought, OnlySaid, OnlySettled, OnlySyncs, OpenFault, Opened, OpensAlong, OpensAsBefore, OpensBetween, OpensToEither, OpensToOneOf, OpensToReading, Origin, Outcome, Outside, Passes, Record, Refused, Repeats, Resend, Restarted, Restarts, SaidSince, SameNeed, Say, SayFault, SayMode, Saying, Sayings, Says, SaysBy, SaysFrame, SaysFront, SaysHeld, Shown, Spent, Standing, StandsFor, StandsOn, StandsUnlessDisk, State, Station, StationMeanings, StaysAt, Stopped, StopsOnce, SwitchFault, Syncs, Taken, TakesBehind, TakesFrom, TellsSpare, Tries, TriesPiece, Unsaid, Version, Weighs, WorksBeside, accept_bytes, admits, after, after_all, after_entry, after_records, all_done, all_owed_last, all_unsaid, all_waiting, begun, beyond_block, body_of, by_station, bytes_of_entries, bytes_wanted, channel_bytes, checkpoint_file, checkpoint_text, choice, choice_told, circuit_of_event, circuit_of_row, closed_gate, compacted, compacted_after, compacted_bytes, compacted_size, done_by, draw_bytes, draw_size, draws_among, draws_in, due, engine_of, entry_bytes, entry_of, event_of_record, event_record, fields_of, file_opens, files_open, files_read, frame_of_draw, full, full_compacted, full_with_spare, gathered_after, heading_of_message, heard_record, held, held_pieces, history_of, is_idle, is_sound, joined, keeps_one, last_or, list_all, mask_of, may_follow, meanings_of, most_accepted, most_drawn, named, need, need_of, need_seal, no_heading, no_records, no_sayings, none_drawn, on, opened_of, opens, outcome, outcome_at, owed_again, owed_last, parts_of, pieces, pieces_of, receipt_text, record_bytes, record_size, record_text, restarted, room, said, said_by, seal_size, seen, selected, selecting, settled, shown, shows, sizes_of, slice_index_or, spare, split_at, spoken, spoken_of, stable, state_at, state_behind, stopped_after, stops, switch_meanings, taken_record, told, unowed, unowed_state, used_at, used_behind, verdict_of, verdict_told, waiting}
+pub use Rattle.gts_engine.specs.Cited.{Accept, Accepted, AfterCall, AfterSettling, AllByRecursion, Alone, An, Anew, AnswersFull, AnswersIn, AreAnchors, AreGathered, AreNext, AreSayings, Asked, AsksOutput, AtOnce, BeginsWithRecord, Behind, Bi, Brings, BringsAndSays, Call, Caller, Cause, Choice, Circuit, CircuitState, Core, Device, Did, Directory, Disk, DiskFault, Done, Doubt, Draw, Draws, Drew, Duplicate, EachRoom, EachRoutedOnce, EachSince, Engine, EngineParts, Enters, Entry, Event, FailsAt, FaultCause, Files, FitsRecord, Follows, FrameField, Full, Fx, Gathered, Gathers, GathersOne, GivesOrMemory, GivesRoom, HadRoomFor, HasBrought, HasCallCause, HasDoubt, HasEntered, HasFailed, HasFewDraws, HasNoRecord, HasOnlySettled, HasPositions, HasRead, HasRecord, HasReopenCause, HasRoom, HasSaid, HasSettled, HasStationCause, HasTold, HasUnsaid, HasWritten, HeadingFields, Heard, History, Holds, Idle, InHand, IsAccepted, IsAnchor, IsAnswer, IsAnswerCause, IsAnswered, IsBehind, IsBlock, IsCalled, IsCause, IsCaused, IsClosedAt, IsCompactCause, IsCompactFault, IsCompacting, IsCompaction, IsCutShort, IsDeviceFault, IsFound, IsFree, IsFront, IsFullCompacted, IsFullEither, IsFullFault, IsGatheredWithRoom, IsGathering, IsGoing, IsHeardWithRoom, IsHeld, IsIdle, IsIdleAnswer, IsIdleFault, IsImage, IsLeft, IsLeftNow, IsNew, IsNoBulletin, IsOneMore, IsOpened, IsReading, IsReady, IsReopenFault, IsReopening, IsRewritten, IsRoomFault, IsSettling, IsSizeAt, IsSound, IsStep, IsUnchanged, IsWithin, IsWriteFault, Judged, Judges, Keeps, Kind, LONGEST_BODY, LONGEST_FRAME, LeavesBoth, LeavesCall, LeavesFrame, LeavesFront, LeavesOthers, LeavesReading, LeavesWhole, Leaving, LineLost, Lost, MOST_CIRCUITS, MOST_GATHERED, MOST_REPEAT, MOST_TOGETHER, MayBring, MayHaveSettled, MayLeave, MayLeaveAlong, MayStand, MessageField, MessageParts, Need, Needs, NeedsHeading, NewBulletin, NoMemory, Nothing, Nothing_waits, ObservedOrigin, OnlyBrought, OnlySaid, OnlySettled, OnlySyncs, OpenFault, Opened, OpensAlong, OpensAsBefore, OpensBetween, OpensToEither, OpensToOneOf, OpensToReading, Origin, Outcome, Outside, Passes, Record, Refused, Repeats, Resend, Restarted, Restarts, SaidSince, SameNeed, Say, SayFault, SayMode, Saying, Sayings, Says, SaysBy, SaysFrame, SaysFront, SaysHeld, Shown, Spent, Standing, StandsFor, StandsOn, StandsUnlessDisk, State, Station, StationMeanings, StaysAt, Stopped, StopsOnce, SwitchFault, Syncs, Taken, TakesBehind, TakesFrom, TellsSpare, Tries, TriesPiece, Unsaid, Version, Weighs, WorksBeside, accept_bytes, admits, after, after_all, after_entry, after_records, all_done, all_owed_last, all_unsaid, all_waiting, begun, beyond_block, body_of, by_station, bytes_of_entries, bytes_wanted, channel_bytes, checkpoint_file, checkpoint_text, choice, choice_told, circuit_of_event, circuit_of_row, closed_gate, compacted, compacted_after, compacted_bytes, compacted_size, done_by, draw_bytes, draw_size, draws_among, draws_in, due, engine_of, entry_bytes, entry_of, event_of_record, event_record, fields_of, file_opens, files_open, files_read, frame_of_draw, full, full_compacted, full_with_spare, gathered_after, heading_of_message, heard_record, held, held_pieces, history_of, is_idle, is_sound, joined, keeps_one, last_or, list_all, mask_of, may_follow, meanings_of, most_accepted, most_drawn, named, need, need_of, need_seal, no_heading, no_records, no_sayings, none_drawn, on, opened_of, opens, outcome, outcome_at, owed_again, owed_last, parts_of, pieces, pieces_of, receipt_text, record_bytes, record_size, record_text, restarted, room, said, said_by, seal_size, seen, selected, selecting, settled, shown, shows, sizes_of, slice_index_or, spare, split_at, spoken, spoken_of, stable, state_at, state_behind, stopped_after, stops, switch_meanings, taken_record, told, unowed, unowed_state, used_at, used_behind, verdict_of, verdict_told, waiting}
 unfoldable pub use Rattle.gts_engine.specs.Cited.{written}

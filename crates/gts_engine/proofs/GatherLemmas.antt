@@ -1,5 +1,5 @@
 -- One event more is gathered: what an engine keeps then, and what a call leaves.
-use Rattle.gts_engine.proofs.Cited.{◌≡◌, ◌⊎◌, ◌+◌, ◌≤◌, true, false, inl, inr, ℕ, List, [], ◌∷◌, ◌++◌, length, Option, None, Result, Ok, Err, refl, sym, ap, subst, ◌∙◌, arith, AfterCall, AfterSettling, Alone, AreGathered, AtOnce, Behind, Device, Directory, DiskFault, Done, Engine, EngineParts, Enters, Entry, Event, Full, Gathers, GathersOne, HasFailed, HasFewDraws, Holds, IsOneMore, Keeps, Leaving, MOST_TOGETHER, MayHaveSettled, NoMemory, Origin, Outcome, Outside, Record, SayFault, SayMode, Shown, Spent, Standing, State, StationMeanings, Stopped, SwitchFault, after, after_all, all_done, by_station, draws_among, draws_in, engine_of, event_record, gathered_after, meanings_of, outcome, pieces, record_bytes, shown, shows, slice_index_or, spoken, state_at, state_behind, used_at, used_behind, append-nil, after_all-append, common_steps}
+use Rattle.gts_engine.proofs.Cited.{◌≡◌, ◌⊎◌, ◌+◌, ◌≤◌, true, false, inl, inr, ℕ, List, [], ◌∷◌, ◌++◌, length, Option, None, Result, Ok, Err, refl, sym, ap, subst, ◌∙◌, arith, AfterCall, AfterSettling, Alone, AreGathered, AtOnce, Behind, Device, Directory, DiskFault, Done, Engine, EngineParts, Enters, Entry, Event, Gathers, GathersOne, HasFailed, HasFewDraws, Holds, IsOneMore, Keeps, Leaving, MOST_TOGETHER, MayHaveSettled, Origin, Outcome, Outside, Record, SayFault, SayMode, Shown, Standing, State, StationMeanings, SwitchFault, after, after_all, all_done, by_station, draws_among, draws_in, engine_of, event_record, gathered_after, meanings_of, outcome, pieces, record_bytes, shown, shows, slice_index_or, spoken, state_at, state_behind, used_at, used_behind, append-nil, after_all-append, common_steps}
 use Rattle.gts_engine.proofs.SettleLemmas.{done_append}
 use Rattle.gts_engine.proofs.BehindLemmas.{length_pieces}
 

@@ -1,5 +1,5 @@
 -- A call that changes nothing, behind what was settled.
-use Rattle.gts_engine.proofs.Cited.{◌≡◌, inr, ℕ, List, [], ◌∷◌, ◌++◌, true, false, Option, None, Result, Ok, Err, refl, sym, ap, subst, ◌∙◌, AfterCall, AnswersIn, Core, Device, Directory, DiskFault, Engine, EngineParts, Entry, Event, Full, Gathers, GivesOrMemory, HasCallCause, HasOnlySettled, HasSettled, HasStationCause, Holds, Idle, IsAccepted, IsGathering, IsRoomFault, IsSettling, IsSound, IsUnchanged, Keeps, LeavesCall, NoMemory, Origin, Outcome, SayFault, SayMode, Shown, Spent, Standing, State, StationMeanings, Stopped, SwitchFault, all_done, engine_of, full, meanings_of, outcome, shown, shows, state_at, stopped_after, used_at, IfOk-weaker, common_steps, arith}
+use Rattle.gts_engine.proofs.Cited.{◌≡◌, inr, ℕ, List, [], ◌∷◌, ◌++◌, true, false, Option, None, Result, Ok, Err, refl, sym, ap, subst, ◌∙◌, AfterCall, AnswersIn, Core, Device, Directory, Engine, EngineParts, Entry, Event, Full, Gathers, GivesOrMemory, HasCallCause, HasOnlySettled, HasSettled, HasStationCause, Holds, Idle, IsAccepted, IsGathering, IsRoomFault, IsSettling, IsSound, IsUnchanged, Keeps, LeavesCall, NoMemory, Origin, Outcome, SayMode, Shown, Standing, State, StationMeanings, SwitchFault, all_done, engine_of, full, meanings_of, outcome, shown, shows, state_at, stopped_after, used_at, IfOk-weaker, common_steps, arith}
 use Rattle.gts_core.specs.Core.{Keeps as KeepsCore}
 use Rattle.gts_engine.proofs.SettlingLemmas.{parts_settle}
 use Rattle.gts_engine.proofs.TurnLemmas.{idle}

@@ -1,5 +1,5 @@
 -- The two steps of a compaction, over an engine's parts.
-use Rattle.gts_engine.proofs.Cited.{◌≡◌, ◌≢◌, ℕ, ◌+◌, ◌-◌, ◌<◌, true, List, [], length, None, Some, Result, Ok, Err, refl, sym, ap, subst, ◌∙◌, arith, false, nat_lt, MatchResult, OnOk, append-nil, Core, Directory, Disk, DiskFault, EachSince, EngineParts, Full, Gathered, HasFewDraws, HasWritten, Holds, InHand, IsBehind, IsClosedAt, IsCompaction, IsGoing, IsRewritten, IsSound, IsWriteFault, LeavesBoth, Need, Needs, NoMemory, OpensAsBefore, SayFault, Spent, StandsFor, StandsOn, State, StationMeanings, StaysAt, Stopped, SwitchFault, WorksBeside, begun, checkpoint_file, compacted_bytes, engine_of, full_compacted, held_pieces, is_sound, need, need_seal, no_records, no_sayings, none_drawn, said_by, seen, selecting as selecting_at, stopped_after, unowed_state, written}
+use Rattle.gts_engine.proofs.Cited.{◌≡◌, ◌≢◌, ℕ, ◌+◌, ◌-◌, ◌<◌, true, List, [], length, None, Some, Result, Ok, Err, refl, sym, ap, subst, ◌∙◌, arith, false, nat_lt, MatchResult, OnOk, append-nil, Core, Directory, Disk, DiskFault, EachSince, EngineParts, Gathered, HasFewDraws, HasWritten, Holds, InHand, IsBehind, IsClosedAt, IsCompaction, IsGoing, IsRewritten, IsSound, IsWriteFault, LeavesBoth, Need, Needs, NoMemory, OpensAsBefore, StandsFor, StandsOn, State, StationMeanings, StaysAt, SwitchFault, WorksBeside, begun, checkpoint_file, compacted_bytes, engine_of, full_compacted, held_pieces, is_sound, need, need_seal, no_records, no_sayings, none_drawn, said_by, seen, selecting as selecting_at, stopped_after, unowed_state, written}
 use Rattle.gts_traits.proofs.LawLemmas.{joined}
 use Rattle.gts_engine.proofs.CompactLemmas.{sound, writing, stands_still, is_journal, selecting, text, apart, left, goes_for, goes_on_compacted}
 use Rattle.gts_engine.proofs.CompactingLemmas.{compacted_so, left_so, memory_so}

@@ -1,5 +1,5 @@
 -- Room is made for a bulletin for which the journal has none.
-use Rattle.gts_engine.proofs.Cited.{◌≡◌, ◌⊎◌, inl, inr, ℕ, ◌+◌, ◌*◌, ◌/◌, ◌-◌, ◌^◌, ◌<◌, ◌≤◌, nat_lt, nat_le, Bool, true, false, cond, List, [], ◌∷◌, ◌++◌, length, Option, Some, None, Result, Ok, Err, refl, sym, ap, subst, ◌∙◌, arith, mul-le-mul_left, IsOk, IsSome, IfSome, is_ok, min, ltb-true, ltb-false, le-ltb, leb-true, leb-false, cases_eq, append-nil, Accepted, AnswersFull, Asked, Device, Directory, Disk, DiskFault, Doubt, Draw, Duplicate, Engine, Entry, Event, Full, GivesRoom, HasFailed, HasRecord, HasSaid, Heard, Holds, Idle, IsAccepted, IsCalled, IsCause, IsCompactFault, IsCompaction, IsFullCompacted, IsFullEither, IsHeardWithRoom, IsIdleAnswer, IsIdleFault, IsLeft, IsReading, IsUnchanged, Keeps, Kind, LeavesFront, LineLost, NoMemory, Nothing, Origin, Outcome, Outside, Refused, Resend, Say, SayFault, SayMode, Shown, Spent, State, StationMeanings, Stopped, SwitchFault, TellsSpare, after_all, begun, body_of, bytes_wanted, checkpoint_text, compacted_after, compacted_size, draw_size, due, entry_of, full, full_compacted, full_with_spare, meanings_of, most_accepted, need, outcome, restarted, room, said_by, seal_size, shown, spare, state_at, used_at, written, weaker}
+use Rattle.gts_engine.proofs.Cited.{◌≡◌, ◌⊎◌, inl, inr, ℕ, ◌+◌, ◌*◌, ◌-◌, ◌^◌, ◌<◌, ◌≤◌, nat_lt, nat_le, Bool, true, false, cond, List, [], ◌∷◌, ◌++◌, length, Option, Some, None, Result, Ok, Err, refl, sym, ap, subst, ◌∙◌, arith, mul-le-mul_left, IsOk, IsSome, IfSome, is_ok, min, ltb-true, ltb-false, le-ltb, leb-true, leb-false, cases_eq, append-nil, Accepted, AnswersFull, Device, Directory, Disk, DiskFault, Doubt, Engine, Entry, Event, Full, GivesRoom, HasFailed, HasRecord, HasSaid, Heard, Holds, Idle, IsAccepted, IsCalled, IsCause, IsCompactFault, IsCompaction, IsFullCompacted, IsFullEither, IsHeardWithRoom, IsIdleAnswer, IsIdleFault, IsLeft, IsReading, IsUnchanged, Keeps, Kind, LeavesFront, NoMemory, Origin, Outcome, Outside, SayFault, SayMode, Shown, Spent, State, StationMeanings, Stopped, SwitchFault, TellsSpare, after_all, begun, body_of, bytes_wanted, checkpoint_text, compacted_after, compacted_size, draw_size, due, entry_of, full, full_compacted, full_with_spare, meanings_of, most_accepted, need, outcome, restarted, room, said_by, seal_size, shown, spare, state_at, used_at, written, weaker}
 use Rattle.gts_engine.proofs.EntryLemmas.{told_more, nothing_said, anchors_more, caused_more, stops_now, only_itself, read_not}
 use Rattle.gts_engine.proofs.LeavingLemmas.{longer}
 use Rattle.gts_engine.proofs.TurnLemmas.{goes_on, quiet, settle_keeps, idle, same}

@@ -1,5 +1,5 @@
 -- What was gathered is brought into the journal, and what was held is said: what an engine keeps then.
-use Rattle.gts_engine.proofs.Cited.{◌≡◌, ◌<◌, true, false, ⊎_elim, ℕ, zero, suc, List, [], ◌∷◌, ◌++◌, length, take, Option, Some, None, Ok, refl, sym, ap, subst, ◌∙◌, arith, append_assoc, BeginsWithRecord, Core, Device, Directory, Disk, Done, Doubt, EachSince, Entry, Event, Files, Gathers, HasDoubt, HasFailed, HasSaid, Holds, Idle, IsFront, IsImage, IsReading, Keeps, LeavesFront, OpensBetween, Origin, Outside, Restarted, SaidSince, Say, SayMode, Shown, State, StopsOnce, Unsaid, after, after_all, all_done, all_unsaid, by_station, joined, may_follow, need, opens, pieces, restarted, said, said_by, slice_index_or, spoken, state_at, state_behind, stops, told, append-nil, after_all-append, said-append, common_steps}
+use Rattle.gts_engine.proofs.Cited.{◌≡◌, ◌<◌, true, false, ⊎_elim, ℕ, zero, suc, List, [], ◌∷◌, ◌++◌, length, take, Option, Some, None, Ok, refl, sym, ap, subst, ◌∙◌, arith, append_assoc, BeginsWithRecord, Core, Device, Directory, Disk, Done, Doubt, EachSince, Entry, Event, Files, Gathers, HasDoubt, HasFailed, HasSaid, Holds, IsFront, IsImage, IsReading, Keeps, LeavesFront, OpensBetween, Origin, Outside, SaidSince, Say, SayMode, Shown, State, StopsOnce, Unsaid, after, after_all, all_done, all_unsaid, by_station, joined, may_follow, need, opens, pieces, restarted, said, said_by, slice_index_or, spoken, state_at, state_behind, stops, told, append-nil, after_all-append, said-append, common_steps}
 use Rattle.gts_engine.proofs.EntryLemmas.{split_last, all_more, nothing_behind, no_doubt, anchors_more, caused_more, told_more, nothing_said, stops_now, stops_never, only_itself, read_itself, read_done, read_not, by_station-append}
 use Rattle.gts_engine.proofs.MarkedLemmas.{state_behind_marked, told_marked, anchors_marked, caused_marked, used_marked, no_doubt_marked, still_going}
 use Rattle.gts_engine.proofs.LeavingLemmas.{at_end, brought}

@@ -1,5 +1,5 @@
 -- Settling, over the parts of an engine.
-use Rattle.gts_engine.proofs.Cited.{◌≡◌, ◌<◌, ◌≤◌, ◌+◌, true, false, nat_lt, ℕ, zero, suc, Bool, List, [], ◌∷◌, ◌++◌, length, Some, None, Result, Ok, Err, OnOk, IfErr, refl, sym, ap, subst, ◌∙◌, arith, replicate, ◌==◌, eqb-true, eqb-false, ltb-false, lt-ltb, AfterSettling, AreNext, Brings, BringsAndSays, Call, Core, Device, Directory, Disk, DiskFault, Engine, EngineParts, Entry, Event, Full, Gathered, Gathers, HasFewDraws, HasRoom, HasSettled, HasStationCause, InHand, IsBlock, IsDeviceFault, IsGathering, IsSettling, IsSound, Keeps, LONGEST_FRAME, MOST_CIRCUITS, MOST_GATHERED, NoMemory, OnlyBrought, OnlySettled, Origin, Record, Say, SayFault, SayMode, Sayings, SaysBy, Spent, StandsFor, State, StationMeanings, Stopped, SwitchFault, after_records, all_done, beyond_block, draw_bytes, engine_of, held_pieces, meanings_of, no_records, no_sayings, none_drawn, shown, shows, slice_index_or, stopped_after, written, append-nil, gathered_block, next_none}
+use Rattle.gts_engine.proofs.Cited.{◌≡◌, ◌<◌, ◌≤◌, ◌+◌, true, false, nat_lt, ℕ, zero, suc, Bool, List, [], ◌∷◌, ◌++◌, length, Some, None, Result, Ok, Err, OnOk, IfErr, refl, sym, ap, subst, ◌∙◌, arith, replicate, ◌==◌, eqb-true, eqb-false, ltb-false, lt-ltb, AfterSettling, AreNext, Brings, BringsAndSays, Call, Core, Device, Directory, Disk, DiskFault, Engine, EngineParts, Entry, Event, Gathered, Gathers, HasFewDraws, HasRoom, HasSettled, HasStationCause, InHand, IsBlock, IsDeviceFault, IsGathering, IsSettling, IsSound, Keeps, LONGEST_FRAME, MOST_CIRCUITS, MOST_GATHERED, OnlyBrought, OnlySettled, Origin, Record, Say, SayFault, SayMode, Sayings, SaysBy, StandsFor, State, StationMeanings, SwitchFault, after_records, all_done, beyond_block, draw_bytes, engine_of, held_pieces, meanings_of, no_records, no_sayings, none_drawn, shown, shows, slice_index_or, stopped_after, written, append-nil, gathered_block, next_none}
 use Rattle.gts_journal.specs.Batch.{Gathers as GathersRecords}
 use Rattle.gts_engine.proofs.TurnLemmas.{goes_on}
 use Rattle.gts_engine.proofs.GoingLemmas.{ends_closed}

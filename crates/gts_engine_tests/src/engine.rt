@@ -288,6 +288,7 @@ pub fn small(alloc: Global, repeat: u32) -> Result<Directory, Fail> {
             host: Ipv4Addr::LOCALHOST,
             idle: None,
             repeat,
+            again: None,
             closed: false,
         })?;
     }

@@ -1,5 +1,5 @@
 -- What is turned away, and the lines of kept draws.
-use Rattle.gts_event.proofs.Cited.{◌≡◌, cond, ◌||◌, ℕ, ◌+◌, ◌<◌, ◌≤◌, Bool, true, false, ◌==◌, nat_le, nat_lt, List, [], ◌∷◌, length, Some, refl, ap, arith, Accepted, Asked, Bulletin, Choice, CircuitState, Directory, Draw, Draws, Duplicate, Event, HasFrame, HeadingFields, Heard, IsHeld, IsTurnedAway, Kind, LineLost, Lost, Nothing, Nothing_waits, Outcome, Outside, Refused, Repeats, Resend, State, Taken, after, after_heard, after_take, choice, circuit_need, circuit_of_event, draws, enumerate_from, find, frame_of_draw, has, heading_of_message, is_kept, is_there, kept_on, no_heading, on, on_circuit, outcome, receipt_text, spoken, leb-true, ltb-true, eq-eqb, cases_lt, and_parts, or_left, or_right, common_steps}
+use Rattle.gts_event.proofs.Cited.{◌≡◌, cond, ◌||◌, ℕ, ◌+◌, ◌<◌, ◌≤◌, Bool, true, false, ◌==◌, nat_le, nat_lt, List, [], ◌∷◌, length, Some, refl, ap, arith, Accepted, Asked, Bulletin, Choice, CircuitState, Directory, Draw, Draws, Event, HasFrame, HeadingFields, Heard, IsHeld, IsTurnedAway, Kind, Lost, Nothing, Nothing_waits, Outcome, Outside, Repeats, Resend, State, Taken, after, after_heard, after_take, choice, circuit_need, circuit_of_event, draws, enumerate_from, find, frame_of_draw, has, heading_of_message, is_kept, is_there, kept_on, no_heading, on, on_circuit, outcome, receipt_text, spoken, leb-true, ltb-true, eq-eqb, cases_lt, and_parts, or_left, or_right, common_steps, Anew}
 use Rattle.gts_event.proofs.OrderLemmas.{list_all-has}
 use Rattle.gts_event.proofs.LeftLemmas.{kept_positions, length-kept}
 
@@ -27,12 +27,14 @@ pub turned-state : (d : Directory) (s : State) (event : Event) → IsTurnedAway 
 turned-state d s (Heard c kind message) h = state_heard d s c kind message (outcome d s (Heard c kind message)) h
 turned-state d s (Lost c field) h = refl
 turned-state d s (Taken c) h = absurd (no_take (choice d s c) h)
+turned-state d s (Anew c again) h = absurd h
 
 pub turned-said : (d : Directory) (s : State) (event : Event) → IsTurnedAway (outcome d s event)
     → spoken d s event ≡ on 0 (receipt_text (circuit_of_event event) (outcome d s event) no_heading)
 turned-said d s (Heard c kind message) h = ap (on 0) (receipt_alone c (outcome d s (Heard c kind message)) (heading_of_message message) h)
 turned-said d s (Lost c field) h = refl
 turned-said d s (Taken c) h = absurd (no_take (choice d s c) h)
+turned-said d s (Anew c again) h = absurd h
 
 abbrev said_take : Directory → State → ℕ → Choice → Outside
 said_take d t c ch =

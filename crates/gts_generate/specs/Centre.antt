@@ -33,6 +33,7 @@ circuit_row j = record {
   host = localhost;
   idle = None;
   repeat = 1;
+  again = None;
   closed = false;
 }
 

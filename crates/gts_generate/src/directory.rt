@@ -36,6 +36,7 @@ fn circuit_row(j: u32) -> CircuitRow
         host: Ipv4Addr::LOCALHOST,
         idle: None,
         repeat: 1,
+        again: None,
         closed: false,
     }
 }

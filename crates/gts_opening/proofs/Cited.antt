@@ -18,6 +18,6 @@ pub use Rattle.gts_message.proofs.LawLemmas.{split_again, split_takes}
 pub use Rattle.gts_record.proofs.LawLemmas.{chain_text-append, length-sealed, number_in-bytes_of, record_at-text, sealed_at-stands, sealed_at-text, sealed_fits, starts_with-append, take_body}
 pub use Rattle.gts_traits.proofs.LawLemmas.{same_places}
 pub use Rattle.gts_traits.specs.Station.{Doing, IsImage, IsImageDuring, stable, touched, touched_by, touches}
-pub use Rattle.gts_opening.specs.Cited.{Accept, Accepted, AllByRecursion, AllHadRoom, An, AreAdmitted, Asked, Begins, BeginsSealed, Bi, Broken, Bulletin, Call, Cause, Choice, Circuit, CircuitNeed, CircuitState, Cuts, Damaged, Did, Directory, Disk, Done, Doubt, Draw, Draws, Drew, Duplicate, EachOwedFew, EachRoutedOnce, EachSince, Entry, Event, Failed, Files, FitsBulletin, FitsCircuit, FitsNeed, FitsRecord, Follows, Full, Fx, HadRoom, HasDoubt, HasPositions, HasRead, HasRoomFor, HasUnsaid, HeadingFields, Heard, History, Idle, IsCaused, IsClosed, IsHeld, IsJournal, IsNext, IsOrdered, IsReading, IsSynced, Item, Kind, LineLost, Lost, MayLeave, MayLeaveAlong, Message, MessageField, MessageParts, Need, NoJournal, NotThis, Nothing, Nothing_waits, OldVersion, One, OpenFault, OpensTo, OpensToEither, Outcome, Outside, Passes, Read, Record, Refused, Repeats, RequestField, Resend, Restarted, RoutedOnce, SameNeed, Say, Says, StandsIn, State, Stopped, SwitchFault, Syncs, Taken, Tries, Two, Unsaid, Version, WasRead, WithCheckpoint, WithNothing, Writes, admits, admits_checkpoint, after, after_all, after_entry, after_heard, after_records, after_take, agreeing, all_done, all_owed_last, answer_to, appended, begun, begun_circuit, behind_header, behind_magic, body_of, bulletin_in, bulletin_text, bytes_of, bytes_of_entries, bytes_open, chain_text, checkpoint_opens, checkpoint_text, choice, circuit_in, circuit_need, circuit_of, circuit_of_event, circuit_text, closed_gate, compacted_bytes, compacted_text, compacting, done_by, draw_size, draws, due, duplicate, empty, end_seal, entry_bytes, entry_record, enumerate_from, event_of_record, event_record, file_opens, file_text, files_open, files_open_in, files_read, first_seal, flat_map, fold, found, front_of, full, full_compacted, gate_after, has, heading_of_message, heard_record, idle, is_bulletin, is_choice, is_circuit_sound, is_doubt, is_here, is_named, is_needed, is_older, is_outcome, is_request, is_result, is_sealed, is_sound, is_unsaid, items_of, keeps_one, last_gate, last_seal, list_all, list_any, magic, many_in, message_of, most_accepted, named, need, need_in, no_heading, number_in, numbers_in, on_circuit, open_gate, opened_of, opens, opens_in, other_file, outcome, overwritten, owed_again, owed_last, places, pointwise, range_with_len, record_behind, record_bytes, record_size, record_text, records_at, records_of, restarted, room, said, seal, seal_size, sealed, sealed_at, seen, selected, starts_with, sum_by, taken_record, texts_of, unowed, unowed_circuit, unowed_on, unowed_state, verdict, waiting, with_bulletin, with_drawn, with_routed}
+pub use Rattle.gts_opening.specs.Cited.{Accept, Accepted, AllByRecursion, AllHadRoom, An, Anew, AreAdmitted, Asked, Begins, BeginsSealed, Bi, Broken, Bulletin, Call, Cause, Choice, Circuit, CircuitNeed, CircuitState, Cuts, Damaged, Did, Directory, Disk, Done, Doubt, Draw, Draws, Drew, Duplicate, EachOwedFew, EachRoutedOnce, EachSince, Entry, Event, Failed, Files, FitsBulletin, FitsCircuit, FitsNeed, FitsRecord, Follows, Full, Fx, HadRoom, HasDoubt, HasPositions, HasRead, HasRoomFor, HasUnsaid, HeadingFields, Heard, History, Idle, IsCaused, IsClosed, IsHeld, IsJournal, IsNext, IsOrdered, IsReading, IsSynced, Item, Kind, LineLost, Lost, MayLeave, MayLeaveAlong, Message, MessageField, MessageParts, Need, NoJournal, NotThis, Nothing, Nothing_waits, OldVersion, One, OpenFault, OpensTo, OpensToEither, Outcome, Outside, Passes, Read, Record, Refused, Repeats, RequestField, Resend, Restarted, RoutedOnce, SameNeed, Say, Says, StandsIn, State, Stopped, SwitchFault, Syncs, Taken, Tries, Two, Unsaid, Version, WasRead, WithCheckpoint, WithNothing, Writes, admits, admits_checkpoint, after, after_all, after_entry, after_heard, after_records, after_take, agreeing, all_done, all_owed_last, answer_to, appended, begins_with, begun, begun_circuit, behind_header, behind_magic, body_of, bulletin_in, bulletin_text, bytes_of, bytes_of_entries, bytes_open, chain_text, checkpoint_opens, checkpoint_text, choice, circuit_in, circuit_need, circuit_of, circuit_of_event, circuit_text, closed_gate, compacted_bytes, compacted_text, compacting, done_by, draw_size, draws, due, duplicate, empty, end_seal, entry_bytes, entry_record, enumerate_from, event_of_record, event_record, file_opens, file_text, files_open, files_open_in, files_read, first_seal, flat_map, fold, found, front_of, full, full_compacted, gate_after, has, heading_of_message, heard_record, idle, is_bulletin, is_choice, is_circuit_sound, is_doubt, is_here, is_named, is_needed, is_older, is_outcome, is_request, is_result, is_sealed, is_sound, is_unsaid, items_of, keeps_one, last_gate, last_seal, list_all, list_any, magic, many_in, message_of, most_accepted, named, need, need_in, no_heading, number_in, numbers_in, on_circuit, open_gate, opened_of, opens, opens_in, other_file, outcome, overwritten, owed_again, owed_anew, owed_last, places, pointwise, range_with_len, record_behind, record_bytes, record_size, record_text, records_at, records_of, restarted, room, said, seal, seal_size, sealed, sealed_at, seen, selected, starts_with, sum_by, taken_record, texts_of, unowed, unowed_circuit, unowed_on, unowed_state, verdict, waiting, with_bulletin, with_drawn, with_routed}
 unfoldable pub use Rattle.gts_opening.specs.Cited.{bare_group_at, bare_heading_at, body_at, dec, heading_at, heading_text, message_group_at, number_at, plain_heading_at, request_at, split_at, text_at, written}
 pub use Rattle.gts_opening.specs.Worked.{history_of, second_event, with_limit}

@@ -21,6 +21,7 @@ fn circuit(name: u8, peer: [u8; 4], digits: u32) -> CircuitRow {
         host: Ipv4Addr::new(10, 0, 0, 2),
         idle: Some(60),
         repeat: 20,
+        again: None,
         closed: false,
     }
 }

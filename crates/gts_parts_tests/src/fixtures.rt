@@ -26,6 +26,7 @@ pub fn two_circuits(alloc: Global) -> Result<Directory, Fail> {
             host: Ipv4Addr::LOCALHOST,
             idle: None,
             repeat: 1,
+            again: None,
             closed: false,
         })?;
     }

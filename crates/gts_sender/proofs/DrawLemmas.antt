@@ -1,16 +1,29 @@
 -- The turns of a sender.
-use Rattle.gts_sender.proofs.Cited.{◌≡◌, ℕ, ◌≤◌, Bool, Result, suc, ◌+◌, List, [], ◌∷◌, ◌++◌, length, Some, None, true, false, Ok, Err, refl, sym, ap, ◌∙◌, subst, arith, append_assoc, length-append, replicate, append-nil, map-append, Accepted, AddsAll, AddsEntries, AnswersTake, Asked, Breaks, Directory, DiskFault, Doubt, Draw, Duplicate, Entry, Fails, Frame, Full, Gave, GaveAll, GaveNoMore, Idle, IsFront, LeavesFrame, LineLost, NoMemory, Nothing, Outcome, Refused, Resend, SayFault, Seen, SendEnd, Sending, SendsMore, Spent, State, Stopped, SwitchFault, Taken, TakesSome, TookLast, WroteFrames, WroteGiven, WroteUpTo, after, after_takes, begun, fault_takes, frame_of_draw, frames, given_index, most_beside, outcome, own, own_frames, state_at, takes, texts, under, own_added, frames_added, frames_behind, frames_one, own_spent, frames_spent, goes_on, goes_on_spent, goes_further, stays}
+use Rattle.gts_sender.proofs.Cited.{AddsAll, AddsEntries, AllByRecursion, Anew, AnswersTake, AreSent, BeginsAnew, BeginsLine, Bool, Breaks, Directory, DiskFault, Done, Doubt, Draw, Entry, Err, Fails, Frame, Full, Gave, GaveAll, GaveNoMore, Idle, IsFront, IsSent, LeavesFrame, List, NoMemory, None, Nothing, Ok, Outcome, Resend, Result, SayFault, Seen, SendEnd, Sending, SendsMore, Some, Spent, State, Stopped, SwitchFault, Taken, TakesSome, TookLast, WroteFrames, WroteGiven, WroteUpTo, [], after, after_takes, ap, append-nil, append_assoc, arith, begun, false, fault_takes, frame_of_draw, frames, frames_added, frames_behind, frames_one, frames_spent, given_index, goes_further, goes_on, goes_on_spent, inl, inr, length, length-append, map-append, most_beside, outcome, own, own_added, own_frames, own_spent, refl, replicate, state_at, stays, subst, suc, sym, takes, texts, true, under, ℕ, ◌++◌, ◌+◌, ◌∙◌, ◌∷◌, ◌≡◌, ◌≤◌, zero}
 use Rattle.gts_sender.specs.declared.end.SendEnd.TheVariants as ends
 use Rattle.gts_sender.proofs.TurnLemmas.{taken, takes_plus, state_behind, gave_nothing, frames_given, frames_no_more, gave_front}
 
-pub sending_nothing : (c : ℕ) (d : Seen) → Sending c d d []
-sending_nothing c d = record { desk = stays d; count = 0; added = sym (append-nil (own d)); written = sym (append-nil (own_frames d)) }
+pub sending_nothing : (c again : ℕ) (d : Seen) → Sending c again d d []
+sending_nothing c again d = record { desk = stays d; entries = []; sent = tt; added = sym (append-nil (own d)); written = sym (append-nil (own_frames d)) }
+
+-- ---- what was sent
+
+each_more : (P : Entry → Type 0) (xs ys : List Entry) → AllByRecursion P xs → AllByRecursion P ys → AllByRecursion P (xs ++ ys)
+each_more P [] ys h k = k
+each_more P (x ∷ xs) ys h k = (h.0, each_more P xs ys h.1 k)
+
+sent_takes : (c again n : ℕ) → AreSent c again (takes c n)
+sent_takes c again zero = tt
+sent_takes c again (suc n) = (inl refl, sent_takes c again n)
+
+sent_more : (c again n : ℕ) (entries : List Entry) → AreSent c again entries → AreSent c again (entries ++ takes c n)
+sent_more c again n entries h = each_more (IsSent c again) entries (takes c n) h (sent_takes c again n)
 
 -- no more is said of takes than that they were done
 abbrev done : (old new : Seen) (more : List Entry) (Holds : State → Type 0) → AddsAll old more Holds new → AddsEntries old more new
 done old new more Holds adds = record { others = adds.others; is = adds.is; strange = adds.strange; holds = tt; caused = adds.caused }
 
-module _ (c : ℕ) (first old new : Seen) (sent : List ℕ) (so_far : Sending c first old sent) where
+module _ (c again : ℕ) (first old new : Seen) (sent : List ℕ) (so_far : Sending c again first old sent) where
   -- a turn of so many takes was done
   module _ (n : ℕ) (Holds : State → Type 0) (adds : AddsAll old (takes c n) Holds new) where
     abbrev s : State
@@ -19,15 +32,16 @@ module _ (c : ℕ) (first old new : Seen) (sent : List ℕ) (so_far : Sending c 
     abbrev turn : AddsEntries old (takes c n) new
     turn = done old new (takes c n) Holds adds
 
-    took : own new ≡ own first ++ takes c (so_far.count + n)
+    took : own new ≡ own first ++ (so_far.entries ++ takes c n)
     took =
         own_added old new (takes c n) turn ∙ ap (λ (l : List Entry). l ++ takes c n) so_far.added
-        ∙ append_assoc (own first) (takes c so_far.count) (takes c n) ∙ ap (λ (l : List Entry). own first ++ l) (takes_plus c so_far.count n)
+        ∙ append_assoc (own first) so_far.entries (takes c n)
 
-    drew : (bytes : List ℕ) → frames old.directory s old.name (under old.name (takes c n)) ≡ bytes → Sending c first new (sent ++ bytes)
+    drew : (bytes : List ℕ) → frames old.directory s old.name (under old.name (takes c n)) ≡ bytes → Sending c again first new (sent ++ bytes)
     drew bytes is = record {
       desk = goes_further first old new so_far.desk (goes_on old new (takes c n) turn);
-      count = so_far.count + n;
+      entries = so_far.entries ++ takes c n;
+      sent = sent_more c again n so_far.entries so_far.sent;
       added = took;
       written = frames_added old new (takes c n) turn ∙ ap (λ (l : List ℕ). own_frames old ++ l) is ∙ ap (λ (l : List ℕ). l ++ bytes) so_far.written
           ∙ append_assoc (own_frames first) sent bytes;
@@ -54,7 +68,7 @@ module _ (c : ℕ) (first old new : Seen) (sent : List ℕ) (so_far : Sending c 
     -- the line failed within the frame of one of them
     broke : (given front : List Frame) (frame : Frame) (back : List Frame) (behind : ℕ) (part : List ℕ) → GaveAll old.directory s c given → given ≡ front ++ frame ∷ back
         → n ≡ length front + suc behind → behind ≤ most_beside old.directory c → IsFront part frame.text
-        → Breaks c frame.index first new (sent ++ (texts front ++ part))
+        → Breaks c again frame.index first new (sent ++ (texts front ++ part))
     broke given front frame back behind part gave parts size few within =
         let k : ℕ = length front in
         let g : GaveAll old.directory s c front × Gave old.directory (after_takes old.directory s c k) c frame =
@@ -63,7 +77,8 @@ module _ (c : ℕ) (first old new : Seen) (sent : List ℕ) (so_far : Sending c 
         g.1.text ∙ sym (same_there (λ d t. frame_of_draw d (after d t (Taken c)) c frame.index) k) in
         record {
           desk = goes_further first old new so_far.desk (goes_on old new (takes c n) turn);
-          count = so_far.count + n;
+          entries = so_far.entries ++ takes c n;
+          sent = sent_more c again n so_far.entries so_far.sent;
           added = took;
           before = up_to k;
           behind = behind;
@@ -81,14 +96,14 @@ module _ (c : ℕ) (first old new : Seen) (sent : List ℕ) (so_far : Sending c 
         }
 
   -- all frames were written, and there may be more
-  pub all_sent : (given : List Frame) → AddsAll old (takes c (length given)) (λ s. GaveAll old.directory s c given) new → Sending c first new (sent ++ texts given)
+  pub all_sent : (given : List Frame) → AddsAll old (takes c (length given)) (λ s. GaveAll old.directory s c given) new → Sending c again first new (sent ++ texts given)
   all_sent given adds =
       let s : State = state_at old (old.history ++ adds.others) in
       drew (length given) (λ s. GaveAll old.directory s c given) adds (texts given) (frames_given old.directory s old.name c given adds.holds)
 
   -- and nothing waits behind them
   pub no_more : (given : List Frame) → AddsAll old (takes c (length given + 1)) (λ s. GaveNoMore old.directory s c given) new
-      → Sending c first new (sent ++ texts given) × TookLast c new Nothing
+      → Sending c again first new (sent ++ texts given) × TookLast c new Nothing
   no_more given adds =
       let s : State = state_at old (old.history ++ adds.others) in
       let n : ℕ = length given in
@@ -103,34 +118,37 @@ module _ (c : ℕ) (first old new : Seen) (sent : List ℕ) (so_far : Sending c 
 
   -- the line failed within one of them
   pub broke_off : (given : List Frame) (more : Bool) (index : ℕ) (bytes : List ℕ) → TakesSome c given (Ok more) old new → WroteUpTo given index bytes
-      → Breaks c index first new (sent ++ bytes)
+      → Breaks c again index first new (sent ++ bytes)
   broke_off given true index bytes takes w =
-      let B : ℕ → List ℕ → Type 0 = λ i l. Breaks c i first new (sent ++ l) in
+      let B : ℕ → List ℕ → Type 0 = λ i l. Breaks c again i first new (sent ++ l) in
       let size : length given ≡ length w.front + suc (length w.back) = ap length w.parts ∙ length-append w.front (w.frame ∷ w.back) in
       subst (λ (i : ℕ). B i bytes) w.index_is
       (subst (B w.frame.index) (sym w.is)
       (broke (length given) (λ s. GaveAll old.directory s c given) takes.0 given w.front w.frame w.back (length w.back) w.part takes.0.holds w.parts size (omega (arith, size, takes.2)) w.within))
   broke_off given false index bytes takes w =
-      let B : ℕ → List ℕ → Type 0 = λ i l. Breaks c i first new (sent ++ l) in
+      let B : ℕ → List ℕ → Type 0 = λ i l. Breaks c again i first new (sent ++ l) in
       let size : length given ≡ length w.front + suc (length w.back) = ap length w.parts ∙ length-append w.front (w.frame ∷ w.back) in
       subst (λ (i : ℕ). B i bytes) w.index_is
       (subst (B w.frame.index) (sym w.is)
       (broke (length given + 1) (λ s. GaveNoMore old.directory s c given) takes.0 given w.front w.frame w.back (suc (length w.back)) w.part takes.0.holds.gave w.parts (omega (arith, size)) (omega (arith, size, takes.1)) w.within))
 
   -- the turn was answered with a fault
-  pub turn_fails : (f : SwitchFault) (given : List Frame) → TakesSome c given (Err f) old new → Fails c f first new (sent ++ [])
+  pub turn_fails : (f : SwitchFault) (given : List Frame) → TakesSome c given (Err f) old new → Fails c again f first new (sent ++ [])
   turn_fails f given took = by f took
     where
-      entered : (f : SwitchFault) (beside : ℕ) (entry : Entry) → fault_takes c beside f ≡ entry ∷ [] → beside ≤ most_beside old.directory c
+      entered : (f : SwitchFault) (beside : ℕ) (entry : Entry) → fault_takes (Taken c) c beside f ≡ entry ∷ [] → beside ≤ most_beside old.directory c
           → ((d : Directory) (s : State) → frames d s old.name (under old.name (entry ∷ [])) ≡ [])
-          → (f ≡ Spent → ⊥) → (f ≡ SayFault → ⊥) → (f ≡ NoMemory → ⊥) → AddsEntries old (entry ∷ []) new → Fails c f first new (sent ++ [])
+          → (f ≡ Spent → ⊥) → (f ≡ SayFault → ⊥) → (f ≡ NoMemory → ⊥) → AddsEntries old (entry ∷ []) new → Fails c again f first new (sent ++ [])
       entered f beside entry shape few none unspent silent memory adds = record {
         desk = goes_further first old new so_far.desk (goes_on old new (entry ∷ []) adds);
-        count = so_far.count;
+        entries = so_far.entries;
+        sent = so_far.sent;
+        event = Taken c;
+        is = inl refl;
         beside = beside;
         few = subst (λ (d : Directory). beside ≤ most_beside d c) (sym (ap (λ (d : Seen). d.directory) adds.is)) few;
         added = own_added old new (entry ∷ []) adds ∙ ap (λ (l : List Entry). l ++ entry ∷ []) so_far.added
-            ∙ append_assoc (own first) (takes c so_far.count) (entry ∷ []) ∙ ap (λ (l : List Entry). own first ++ (takes c so_far.count ++ l)) (sym shape);
+            ∙ append_assoc (own first) so_far.entries (entry ∷ []) ∙ ap (λ (l : List Entry). own first ++ (so_far.entries ++ l)) (sym shape);
         written = frames_added old new (entry ∷ []) adds ∙ ap (λ (l : List ℕ). own_frames old ++ l) (none old.directory (state_at old (old.history ++ adds.others)))
             ∙ ap (λ (l : List ℕ). l ++ []) so_far.written ∙ append_assoc (own_frames first) sent [];
         spent = λ e. absurd (unspent e);
@@ -138,7 +156,7 @@ module _ (c : ℕ) (first old new : Seen) (sent : List ℕ) (so_far : Sending c 
         memory = memory;
       }
 
-      by : (f : SwitchFault) → TakesSome c given (Err f) old new → Fails c f first new (sent ++ [])
+      by : (f : SwitchFault) → TakesSome c given (Err f) old new → Fails c again f first new (sent ++ [])
       by SayFault took = absurd took
       by NoMemory took = absurd took
       by DiskFault took =
@@ -153,31 +171,100 @@ module _ (c : ℕ) (first old new : Seen) (sent : List ℕ) (so_far : Sending c 
           entered (Stopped device) 0 entry refl (omega arith) (λ d s. frames_one d s old.name entry) (λ e. cc e) (λ e. cc e) (λ e. cc e) took.1
       by Spent took = record {
         desk = goes_further first old new so_far.desk (goes_on_spent old new took.1);
-        count = so_far.count;
+        entries = so_far.entries;
+        sent = so_far.sent;
+        event = Taken c;
+        is = inl refl;
         beside = 0;
         few = omega arith;
-        added = own_spent old new took.1 ∙ so_far.added ∙ ap (λ (l : List Entry). own first ++ l) (sym (append-nil (takes c so_far.count)));
+        added = own_spent old new took.1 ∙ so_far.added ∙ ap (λ (l : List Entry). own first ++ l) (sym (append-nil so_far.entries));
         written = frames_spent old new took.1 ∙ so_far.written ∙ ap (λ (l : List ℕ). own_frames first ++ l) (sym (append-nil sent));
         spent = λ e. ap (λ (d : Seen). d.full) took.1.is;
         silent = λ e. cc e;
         memory = λ e. cc e;
       }
 
+  -- ---- a line that is begun anew
+
+  sent_anew : AreSent c again (so_far.entries ++ Done (Anew c again) ∷ [])
+  sent_anew = each_more (IsSent c again) so_far.entries (Done (Anew c again) ∷ []) so_far.sent (inr refl, tt)
+
+  pub begun_anew : AddsEntries old (Done (Anew c again) ∷ []) new → Sending c again first new sent
+  begun_anew adds =
+      let more : List Entry = Done (Anew c again) ∷ [] in
+      record {
+        desk = goes_further first old new so_far.desk (goes_on old new more adds);
+        entries = so_far.entries ++ more;
+        sent = sent_anew;
+        added = own_added old new more adds ∙ ap (λ (l : List Entry). l ++ more) so_far.added ∙ append_assoc (own first) so_far.entries more;
+        written = frames_added old new more adds
+            ∙ ap (λ (l : List ℕ). own_frames old ++ l) (frames_one old.directory (state_at old (old.history ++ adds.others)) old.name (Done (Anew c again)))
+            ∙ append-nil (own_frames old) ∙ so_far.written;
+      }
+
+  -- it was answered with a fault
+  pub anew_fails : (f : SwitchFault) → BeginsAnew c again (Err f) old new → Fails c again f first new (sent ++ [])
+  anew_fails (Stopped device) adds =
+      let entry : Entry = Idle (Anew c again) (Stopped device) in
+      record {
+        desk = goes_further first old new so_far.desk (goes_on old new (entry ∷ []) adds);
+        entries = so_far.entries;
+        sent = so_far.sent;
+        event = Anew c again;
+        is = inr refl;
+        beside = 0;
+        few = omega arith;
+        added = own_added old new (entry ∷ []) adds ∙ ap (λ (l : List Entry). l ++ entry ∷ []) so_far.added
+            ∙ append_assoc (own first) so_far.entries (entry ∷ []);
+        written = frames_added old new (entry ∷ []) adds
+            ∙ ap (λ (l : List ℕ). own_frames old ++ l) (frames_one old.directory (state_at old (old.history ++ adds.others)) old.name entry)
+            ∙ ap (λ (l : List ℕ). l ++ []) so_far.written ∙ append_assoc (own_frames first) sent [];
+        spent = λ e. cc e;
+        silent = λ e. cc e;
+        memory = λ e. cc e;
+      }
+  anew_fails Spent spent = record {
+    desk = goes_further first old new so_far.desk (goes_on_spent old new spent);
+    entries = so_far.entries;
+    sent = so_far.sent;
+    event = Anew c again;
+    is = inr refl;
+    beside = 0;
+    few = omega arith;
+    added = own_spent old new spent ∙ so_far.added ∙ ap (λ (l : List Entry). own first ++ l) (sym (append-nil so_far.entries));
+    written = frames_spent old new spent ∙ so_far.written ∙ ap (λ (l : List ℕ). own_frames first ++ l) (sym (append-nil sent));
+    spent = λ e. ap (λ (d : Seen). d.full) spent.is;
+    silent = λ e. cc e;
+    memory = λ e. cc e;
+  }
+  anew_fails _ none = absurd none
+
+-- what follows a line that was begun anew, or needn't be, follows what was before it
+pub behind_line : (c again : ℕ) (old mid new : Seen) (bytes : List ℕ) (result : Result Bool SendEnd) → BeginsLine c again (Ok tt) old mid → SendsMore c again mid new bytes result
+    → SendsMore c again old new bytes result
+behind_line c again old mid new bytes result (inl same) more first sent so_far =
+    more first sent (subst (λ (d : Seen). Sending c again first d sent) (sym same.1) so_far)
+behind_line c again old mid new bytes result (inr begun) more first sent so_far = more first sent (begun_anew c again first old mid sent so_far begun)
+
+pub line_failed : (c again : ℕ) (old new : Seen) (fault : SwitchFault) → BeginsLine c again (Err fault) old new → SendsMore c again old new [] (Err (ends.Fault fault))
+line_failed c again old new fault (inl same) first sent so_far = absurd (let e = same.0 in cc e)
+line_failed c again old new fault (inr begun) first sent so_far = anew_fails c again first old new sent so_far fault begun
+
 -- ---- what a turn sends, whatever was sent before
 
-module _ (c : ℕ) (old new : Seen) (given : List Frame) where
-  pub turn_sent : (more : Bool) (bytes : List ℕ) → TakesSome c given (Ok more) old new → bytes ≡ texts given → SendsMore c old new bytes (Ok more)
-  turn_sent true bytes takes is first sent so_far = subst (λ (l : List ℕ). Sending c first new (sent ++ l)) (sym is) (all_sent c first old new sent so_far given takes.0)
+module _ (c again : ℕ) (old new : Seen) (given : List Frame) where
+  pub turn_sent : (more : Bool) (bytes : List ℕ) → TakesSome c given (Ok more) old new → bytes ≡ texts given → SendsMore c again old new bytes (Ok more)
+  turn_sent true bytes takes is first sent so_far = subst (λ (l : List ℕ). Sending c again first new (sent ++ l)) (sym is) (all_sent c again first old new sent so_far given takes.0)
   turn_sent false bytes takes is first sent so_far =
-      let all = no_more c first old new sent so_far given takes.0 in (subst (λ (l : List ℕ). Sending c first new (sent ++ l)) (sym is) all.0, all.1)
+      let all = no_more c again first old new sent so_far given takes.0 in (subst (λ (l : List ℕ). Sending c again first new (sent ++ l)) (sym is) all.0, all.1)
 
-  pub turn_broke : (more : Bool) (bytes : List ℕ) (end : SendEnd) → TakesSome c given (Ok more) old new → WroteFrames given bytes (Err end) → SendsMore c old new bytes (Err end)
-  turn_broke more bytes (ends.LineFault index) takes w first sent so_far = broke_off c first old new sent so_far given more index bytes takes w
+  pub turn_broke : (more : Bool) (bytes : List ℕ) (end : SendEnd) → TakesSome c given (Ok more) old new → WroteFrames given bytes (Err end) → SendsMore c again old new bytes (Err end)
+  turn_broke more bytes (ends.LineFault index) takes w first sent so_far = broke_off c again first old new sent so_far given more index bytes takes w
   turn_broke more bytes ends.Quiet takes w first sent so_far = absurd w
   turn_broke more bytes (ends.Fault fault) takes w first sent so_far = absurd w
 
-  pub turn_failed : (fault : SwitchFault) → TakesSome c given (Err fault) old new → SendsMore c old new [] (Err (ends.Fault fault))
-  turn_failed fault takes first sent so_far = turn_fails c first old new sent so_far fault given takes
+  pub turn_failed : (fault : SwitchFault) → TakesSome c given (Err fault) old new → SendsMore c again old new [] (Err (ends.Fault fault))
+  turn_failed fault takes first sent so_far = turn_fails c again first old new sent so_far fault given takes
 
 -- ---- what one take sends
 
@@ -188,7 +275,7 @@ left_line d s c out (Resend k) index leaves is = let e : k ≡ index = cc is in 
 left_line d s c out (Draw k) index leaves is = let e : k ≡ index = cc is in leaves ∙ ap (frame_of_draw d (after d s (Taken c)) c) e
 left_line d s c out _ index leaves is = absurd (cc is)
 
-module _ (c : ℕ) (old new : Seen) (out : List ℕ) where
+module _ (c again : ℕ) (old new : Seen) (out : List ℕ) where
   abbrev the_frame : ℕ → Frame
   the_frame index = record { index = index; text = out }
 
@@ -212,17 +299,17 @@ module _ (c : ℕ) (old new : Seen) (out : List ℕ) where
     omega arith,
   )
 
-  pub whole : (o : Outcome) (index : ℕ) → AnswersTake c out (Ok o) old new → given_index o ≡ Some index → SendsMore c old new out (Ok true)
-  whole o index answers given first sent so_far = turn_sent c old new (the_frame index ∷ []) true out (one_given o index answers given) (sym (append-nil out)) first sent so_far
+  pub whole : (o : Outcome) (index : ℕ) → AnswersTake c out (Ok o) old new → given_index o ≡ Some index → SendsMore c again old new out (Ok true)
+  whole o index answers given first sent so_far = turn_sent c again old new (the_frame index ∷ []) true out (one_given o index answers given) (sym (append-nil out)) first sent so_far
 
   pub broken : (o : Outcome) (index : ℕ) (bytes : List ℕ) → AnswersTake c out (Ok o) old new → given_index o ≡ Some index → IsFront bytes out
-      → SendsMore c old new bytes (Err (ends.LineFault index))
+      → SendsMore c again old new bytes (Err (ends.LineFault index))
   broken o index bytes answers given front first sent so_far =
-      broke_off c first old new sent so_far (the_frame index ∷ []) true index bytes (one_given o index answers given)
+      broke_off c again first old new sent so_far (the_frame index ∷ []) true index bytes (one_given o index answers given)
       (record { front = []; frame = the_frame index; back = []; parts = refl; index_is = refl; part = bytes; within = front; is = refl })
 
-  pub none : (o : Outcome) → AnswersTake c out (Ok o) old new → given_index o ≡ None → SendsMore c old new [] (Ok false)
-  none o answers given first sent so_far = no_more c first old new sent so_far [] nothing
+  pub none : (o : Outcome) → AnswersTake c out (Ok o) old new → given_index o ≡ None → SendsMore c again old new [] (Ok false)
+  none o answers given first sent so_far = no_more c again first old new sent so_far [] nothing
     where
       nothing : AddsAll old (taken c ∷ []) (λ s. GaveNoMore old.directory s c []) new
       nothing = record {
@@ -237,9 +324,9 @@ module _ (c : ℕ) (old new : Seen) (out : List ℕ) where
       }
 
   pub given : (o : Outcome) (bytes : List ℕ) (result : Result Bool SendEnd) → AnswersTake c out (Ok o) old new → WroteGiven o out bytes result
-      → SendsMore c old new bytes result
-  given o bytes (Ok true) answers w = subst (λ (l : List ℕ). SendsMore c old new l (Ok true)) (sym w.2) (whole o w.0 answers w.1)
-  given o bytes (Ok false) answers w = subst (λ (l : List ℕ). SendsMore c old new l (Ok false)) (sym w.1) (none o answers w.0)
+      → SendsMore c again old new bytes result
+  given o bytes (Ok true) answers w = subst (λ (l : List ℕ). SendsMore c again old new l (Ok true)) (sym w.2) (whole o w.0 answers w.1)
+  given o bytes (Ok false) answers w = subst (λ (l : List ℕ). SendsMore c again old new l (Ok false)) (sym w.1) (none o answers w.0)
   given o bytes (Err (ends.LineFault index)) answers w = broken o index bytes answers w.0 w.1
   given o bytes _ answers w = absurd w
 
@@ -250,5 +337,5 @@ module _ (c : ℕ) (old new : Seen) (out : List ℕ) where
   one_failed _ answers silent memory = (refl, answers)
 
   pub failed : (fault : SwitchFault) → AnswersTake c out (Err fault) old new → (fault ≡ SayFault → ⊥) → (fault ≡ NoMemory → ⊥)
-      → SendsMore c old new [] (Err (ends.Fault fault))
-  failed fault answers silent memory = turn_failed c old new [] fault (one_failed fault answers silent memory)
+      → SendsMore c again old new [] (Err (ends.Fault fault))
+  failed fault answers silent memory = turn_failed c again old new [] fault (one_failed fault answers silent memory)

@@ -1,5 +1,5 @@
 -- The takes of one turn, and the frames that they gave.
-use Rattle.gts_sender.proofs.Cited.{◌≡◌, ℕ, zero, suc, ◌+◌, List, [], ◌∷◌, ◌++◌, length, Some, None, refl, sym, ap, ◌∙◌, add-one, replicate, append-nil, map-append, replicate-append-replicate, Accepted, Asked, Choice, Directory, Done, Draw, Draws, Duplicate, Entry, Frame, Gave, GaveAll, GaveNoMore, LineLost, Nothing, Nothing_waits, Outcome, Refused, Repeats, Resend, State, Taken, after, after_all, after_takes, choice, frame_of, frame_of_draw, frame_of_outcome, frames, given_index, outcome, takes, texts, under, after_all-append, entries, frames_append, frames_one, common_steps, arith}
+use Rattle.gts_sender.proofs.Cited.{◌≡◌, ℕ, zero, suc, ◌+◌, List, [], ◌∷◌, ◌++◌, length, Some, None, refl, sym, ap, ◌∙◌, add-one, replicate, append-nil, map-append, replicate-append-replicate, Choice, Directory, Done, Draw, Draws, Entry, Frame, Gave, GaveAll, GaveNoMore, Nothing, Nothing_waits, Outcome, Repeats, Resend, State, Taken, after, after_all, after_takes, choice, frame_of, frame_of_draw, frame_of_outcome, frames, given_index, outcome, takes, texts, under, after_all-append, entries, frames_append, frames_one, common_steps, arith}
 
 abbrev pub taken : ℕ → Entry
 taken c = Done (Taken c)

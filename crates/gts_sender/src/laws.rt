@@ -5,19 +5,19 @@ ghost use Rattle.gts_sender.specs.Cited.{AnswersTake, Fault, IsFront, LineFault,
 /// What a take adds to what was sent: the frame that it gave; a front of it, where the line failed in it; and nothing, where it
 /// gave none or was answered with a fault.
 pub fn a_take_sends_what_it_gave()
-    ensures whole { (c : ℕ) (old new : Seen) (out : List ℕ) (o : Outcome) (index : ℕ)
+    ensures whole { (c again : ℕ) (old new : Seen) (out : List ℕ) (o : Outcome) (index : ℕ)
         → AnswersTake c out (Ok o) old new → given_index o ≡ Some index
-        → SendsMore c old new out (Ok true) }
-    ensures broken { (c : ℕ) (old new : Seen) (out : List ℕ) (o : Outcome) (index : ℕ)
+        → SendsMore c again old new out (Ok true) }
+    ensures broken { (c again : ℕ) (old new : Seen) (out : List ℕ) (o : Outcome) (index : ℕ)
         (bytes : List ℕ) → AnswersTake c out (Ok o) old new → given_index o ≡ Some index
-        → IsFront bytes out → SendsMore c old new bytes (Err (LineFault index)) }
-    ensures none { (c : ℕ) (old new : Seen) (out : List ℕ) (o : Outcome)
+        → IsFront bytes out → SendsMore c again old new bytes (Err (LineFault index)) }
+    ensures none { (c again : ℕ) (old new : Seen) (out : List ℕ) (o : Outcome)
         → AnswersTake c out (Ok o) old new → given_index o ≡ None
-        → SendsMore c old new [] (Ok false) }
-    ensures given { (c : ℕ) (old new : Seen) (out : List ℕ) (o : Outcome) (bytes : List ℕ)
+        → SendsMore c again old new [] (Ok false) }
+    ensures given { (c again : ℕ) (old new : Seen) (out : List ℕ) (o : Outcome) (bytes : List ℕ)
         (result : Result Bool SendEnd) → AnswersTake c out (Ok o) old new
-        → WroteGiven o out bytes result → SendsMore c old new bytes result }
-    ensures failed { (c : ℕ) (old new : Seen) (out : List ℕ) (fault : SwitchFault)
+        → WroteGiven o out bytes result → SendsMore c again old new bytes result }
+    ensures failed { (c again : ℕ) (old new : Seen) (out : List ℕ) (fault : SwitchFault)
         → AnswersTake c out (Err fault) old new → (fault ≡ SayFault → ⊥)
-        → (fault ≡ NoMemory → ⊥) → SendsMore c old new [] (Err (Fault fault)) }
+        → (fault ≡ NoMemory → ⊥) → SendsMore c again old new [] (Err (Fault fault)) }
 {}

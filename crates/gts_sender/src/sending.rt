@@ -1,35 +1,37 @@
 ghost use Rattle.std.specs.Prelude.{◌≡◌, ℕ, ◌<◌, List, length};
-ghost use Rattle.gts_sender.specs.Cited.{HasLineCause, HasSendCause, Sends, SendsMore, SinkTook, WroteGiven, given_index};
+ghost use Rattle.gts_sender.specs.Cited.{BeginsLine, HasLineCause, HasSendCause, Sends, SendsMore, SinkTook, WroteGiven, given_index};
 
-use crate::SendEnd;
 use crate::writing::{write_all, write_frames};
+use crate::{OutgoingLine, SendEnd};
 use gts_calls::{Desk, Frames, Given};
-use gts_event::Outcome;
+use gts_event::{Outcome, SwitchFault};
 use gts_frame::FrameBuf;
 use gts_lock::{Bell, Look};
 use gts_traits::{Failed, Gate, Point, Sink};
 use std::sync::Wait;
 
-/// Sends on circuit `c`: writes the frames of each turn of takes, until the bell is closed and a take gives nothing. Where there is
-/// nothing, it tells the sink so, and sleeps at the bell as long as that lets it. With a bell that is closed it writes what there
-/// is, and doesn't sleep. Takes no memory.
+/// Sends on a circuit's line: writes the frames of each turn of takes, until the bell is closed and a take gives nothing. Where the
+/// sink says that its connection is a new one, the line is begun anew before the next turn. Where there is nothing, it tells the
+/// sink so, and sleeps at the bell as long as that lets it. With a bell that is closed it writes what there is, and doesn't sleep.
+/// Takes no memory.
 pub fn send<R: Wait, D: Desk, K: Sink, G: Gate>(
     rt: &R,
     desk: &mut D,
-    c: u32,
+    line: OutgoingLine,
     sink: &mut K,
     given: &mut Given,
     bell: &Bell,
     gate: &G,
 ) -> SendEnd
-    requires { c < length (D.seen desk.old).directory.circuits }
-    ensures sent { (bytes : List ℕ) × Sends c (D.seen desk.old) (D.seen desk.new) bytes result
+    requires { line.circuit < length (D.seen desk.old).directory.circuits }
+    ensures sent { (bytes : List ℕ)
+        × Sends line.circuit line.again (D.seen desk.old) (D.seen desk.new) bytes result
         × SinkTook K.Sink sink.old sink.new bytes }
     ensures cause { HasLineCause K.Sink result sink.old sink.new }
 {
     for _ in rt.forever() {
         let seen = bell.look();
-        match send_some(desk, c, sink, given, gate) {
+        match send_some(desk, line, sink, given, gate) {
             Ok(true) => {}
             Ok(false) => {
                 if seen.closing {
@@ -54,22 +56,42 @@ fn rest<R: Wait, K: Sink>(rt: &R, sink: &mut K, bell: &Bell, seen: Look)
     }
 }
 
-/// Takes in one turn, and then writes the frames that were given. False where nothing waits behind them.
+/// Begins the line anew at the desk, where the sink's connection is a new one.
+fn begin_line<D: Desk, K: Sink>(
+    desk: &mut D,
+    line: OutgoingLine,
+    sink: &mut K,
+) -> Result<(), SwitchFault>
+    requires { line.circuit < length (D.seen desk.old).directory.circuits }
+    ensures begun { BeginsLine line.circuit line.again result (D.seen desk.old) (D.seen desk.new) }
+    ensures unwritten { K.observed → K.written sink.new ≡ K.written sink.old }
+    ensures sound { K.faults sink.new ≡ K.faults sink.old }
+{
+    if line.again > 0 && sink.ready() {
+        desk.begin_anew(line.circuit, line.again)?;
+    }
+    Ok(())
+}
+
+/// Begins the line anew where there is need for that. Then it takes in one turn, and writes the frames that were given. False where
+/// nothing waits behind them.
 fn send_some<D: Desk, K: Sink, G: Gate>(
     desk: &mut D,
-    c: u32,
+    line: OutgoingLine,
     sink: &mut K,
     given: &mut Given,
     gate: &G,
 ) -> Result<bool, SendEnd>
-    requires { c < length (D.seen desk.old).directory.circuits }
+    requires { line.circuit < length (D.seen desk.old).directory.circuits }
     ensures directory { (D.seen desk.new).directory ≡ (D.seen desk.old).directory }
     ensures tried { (bytes : List ℕ)
-        × SendsMore c (D.seen desk.old) (D.seen desk.new) bytes result
+        × SendsMore line.circuit line.again (D.seen desk.old) (D.seen desk.new) bytes result
         × SinkTook K.Sink sink.old sink.new bytes }
     ensures cause { HasSendCause K.Sink result sink.old sink.new }
 {
+    let c = line.circuit;
     gate.at(Point::Take { c });
+    begin_line(desk, line, sink)?;
     let more = desk.take_some(c, given)?;
     write_frames(sink, &given.frames)?;
     pass_sent(c, &given.frames, gate);

@@ -47,6 +47,8 @@ struct Way<'a, R: Net<Listener = TcpListener, Stream = TcpStream> + Clock + Epri
     stream: Option<TcpStream>,
     /// Whether a connection has stood.
     has_stood: bool,
+    /// Whether a connection was made since it was last asked for that.
+    is_new: bool,
     /// The pauses between tries until the first one stands.
     pauses: Pauses,
     /// When something was last written.
@@ -78,6 +80,7 @@ impl<R: Net<Listener = TcpListener, Stream = TcpStream> + Clock + Eprint> Way<'_
         stream.set_nonblocking(true)?;
         self.stream = Some(stream);
         self.has_stood = true;
+        self.is_new = true;
         Ok(())
     }
 
@@ -277,6 +280,17 @@ impl<R: Net<Listener = TcpListener, Stream = TcpStream> + Clock + Eprint> Way<'_
         }
     }
 
+    /// Whether a connection was made since this was last asked. Where none stands, the port is tried once.
+    fn is_renewed(&mut self) -> bool {
+        self.look();
+        if self.stream.is_none() && !is_closed(&self.place) {
+            self.tries_once();
+        }
+        let is_new = self.is_new;
+        self.is_new = false;
+        is_new
+    }
+
     /// Nothing is due, and on a closed circuit nothing ever is. Where no connection has stood yet, the port is tried once. On one that
     /// stands, what the neighbour sends is read away once a second, and where nothing was written for a third of the circuit's `idle`
     /// seconds, a keep-alive is; a connection that has ended, or doesn't take it, is given up.
@@ -454,6 +468,7 @@ impl<'a, R: Net<Listener = TcpListener, Stream = TcpStream> + Clock + Eprint> Tc
             patience,
             stream: None,
             has_stood: false,
+            is_new: false,
             pauses: Pauses::new(),
             written: None,
             teller: Teller::new(circuit),
@@ -503,6 +518,11 @@ impl<R: Net<Listener = TcpListener, Stream = TcpStream> + Clock + Eprint> Sink f
         note(&answer, &mut self.cause);
         counted(answer, &mut self.faults)?;
         Ok(piece.len())
+    }
+
+    /// Whether a connection was made since this was last asked. Where none stands, the port is tried once.
+    fn ready(&mut self) -> bool {
+        self.way.is_renewed()
     }
 
     /// Tries the port until a connection has stood, and keeps a connection alive that stands.

@@ -90,6 +90,10 @@ impl Sink for Getting<'_> {
         Ok(piece.len())
     }
 
+    fn ready(&mut self) -> bool {
+        false
+    }
+
     fn nothing_due(&mut self) -> Option<u32> {
         None
     }

@@ -146,6 +146,18 @@ impl<'a, R: Wait, P: Station, B: Began> Desk for HallDesk<'a, R, P, B> {
         self.waits = self.room.wait(self.at.rt, self.waits);
     }
 
+    fn begin_anew(&mut self, c: u32, again: u32) -> Result<(), SwitchFault> {
+        let Some(pass) = self.pass.take() else {
+            unreachable!()
+        };
+        let (pass, answer) = turns::begin_anew(&self.at, pass, c, again);
+        self.pass = Some(pass);
+        if answer.is_err() {
+            self.wake_all();
+        }
+        answer
+    }
+
     fn take_some(&mut self, c: u32, given: &mut Given) -> Result<bool, SwitchFault> {
         let Some(pass) = self.pass.take() else {
             unreachable!()

@@ -1,5 +1,5 @@
 ghost use Rattle.std.specs.Prelude.{◌≡◌, ◌≢◌, ◌<◌, length, Err};
-ghost use Rattle.gts_circuits.specs.Cited.{Heard, LeavesFrame, Never, SaysNoMore, Taken, Turns};
+ghost use Rattle.gts_circuits.specs.Cited.{Anew, Heard, LeavesFrame, Never, OnlyStops, SaysNoMore, Taken, Turns};
 
 use crate::hall::began::Began;
 use gts_calls::Listens;
@@ -87,6 +87,17 @@ impl<P: Station, B: Began> Housed<P, B> {
             return self.engine.hear_with_room(alloc, c, kind, message);
         }
         self.engine.hear(alloc, c, kind, message)
+    }
+
+    /// The line of circuit `c` was begun anew, with its last `again` draws.
+    pub(crate) fn begin_anew(&mut self, c: u32, again: u32) -> Result<Outcome, SwitchFault>
+        requires { c < length self.old.engine.directory.circuits }
+        ensures adds { Turns P.Station B.beginning (Anew c again) SaysNoMore result
+            self.old.engine self.new.engine }
+        ensures mode { self.new.makes_room ≡ self.old.makes_room }
+        ensures stops { OnlyStops P.Station B.beginning result self.old.engine }
+    {
+        self.engine.begin_anew(c, again)
     }
 
     /// One take on circuit `c`: what it gives is left in `out`, and the station says nothing of it.

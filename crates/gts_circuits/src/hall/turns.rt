@@ -1,10 +1,10 @@
 //! One turn of a pass for each call of its desk.
 ghost use Rattle.std.specs.Prelude.{◌≡◌, ◌≢◌, ◌<◌, ◌≤◌, ◌++◌, ◌∷◌, [], true, ℕ, List, length, take, Some, Err};
-ghost use Rattle.gts_circuits.specs.Cited.Below.{Answers, Decoding, Entry as EntryType, Feeds, HasMessage, Heard, IsShortAt, SaysNoMore, Takes, TakesSome, after_adding, entries, events_added, frames_of, is_event};
+ghost use Rattle.gts_circuits.specs.Cited.Below.{Answers, BeginsAnew, Decoding, Entry as EntryType, Feeds, HasMessage, Heard, IsShortAt, SaysNoMore, Takes, TakesSome, after_adding, entries, events_added, frames_of, is_event};
 ghost use Rattle.gts_calls.specs.Cited.{Reads};
 ghost use Rattle.gts_circuits.specs.Housed.{Stands};
 ghost use Rattle.gts_circuits.specs.Flat.{all_of};
-ghost use Rattle.gts_circuits.specs.Turning.{KnowsOwn, seen_by};
+ghost use Rattle.gts_circuits.specs.Turning.{KnowsOwn, seen_by, without_outcome as without_outcome_of};
 
 use crate::hall::began::Began;
 use crate::hall::entrance::Entrance;
@@ -115,6 +115,43 @@ pub(crate) fn hear<R: Wait, P: Station, B: Began>(
         leave::<P, B, _, Brand>(turn, &(c, kind, message, answer)),
         answer,
     )
+}
+
+/// One turn in which the line of circuit `c` is begun anew. Nothing is said of it, and no device is asked. `Spent` as in `hear`. Takes
+/// no memory.
+pub(crate) fn begin_anew<R: Wait, P: Station, B: Began>(
+    at: &Entrance<'_, R, P, B>,
+    pass: Pass<Housed<P, B>>,
+    c: u32,
+    again: u32,
+) -> (Pass<Housed<P, B>>, Result<(), SwitchFault>)
+    requires hall { pass.hall ≡ Some at.now.hall.now }
+    requires own { KnowsOwn pass }
+    requires circuit { c < length B.beginning.origin.directory.circuits }
+    ensures begun { BeginsAnew c again result.1 (seen_by B.beginning pass)
+        (seen_by B.beginning result.0) }
+    ensures hall { result.0.hall ≡ Some at.now.hall.now }
+    ensures own { KnowsOwn result.0 }
+{
+    let mut turn = match at.hall.enter(at.rt, pass) {
+        Ok(turn) => turn,
+        Err(pass) => return (pass, Err(SwitchFault::Spent)),
+    };
+    let answer = turn.value().begin_anew(c, again);
+    (
+        leave::<P, B, _, Brand>(turn, &(c, again, answer)),
+        without_outcome(answer),
+    )
+}
+
+/// Whether a call was done, without what it led to.
+fn without_outcome(answer: Result<Outcome, SwitchFault>) -> Result<(), SwitchFault>
+    ensures { result ≡ without_outcome_of answer }
+{
+    match answer {
+        Ok(_) => Ok(()),
+        Err(fault) => Err(fault),
+    }
 }
 
 /// One turn for takes on circuit `c`, one after another: their frames are left in `given`. Nothing is said of them, so that no saying

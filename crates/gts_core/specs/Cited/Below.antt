@@ -27,11 +27,11 @@ pub use Rattle.gts_request.specs.Cited.{IsItem, Item, Numbers, OfHeading, asked_
 unfoldable pub use Rattle.gts_request.specs.Cited.{request_at}
 pub use Rattle.gts_request.specs.declared.fault.RequestField.{RequestField}
 pub use Rattle.gts_directory.specs.Cited.{Circuit, Directory, bit, circuit_of_row, is_named, level_of, mask_of, named}
-pub use Rattle.gts_event.specs.Cited.{Bulletin, Choice, CircuitNeed, CircuitState, Draws, IsExtentOf, IsOrdered, Need, Nothing_waits, Repeats, SameNeed, State, after, after_heard, after_take, again_on, all_owed_last, answer, answer_to, are_below, ascends, begun, begun_circuit, body_of, bulletin_at, bulletin_of, choice, choice_of, circuit_need, circuit_need_of, circuit_needs, digits_on, drawn, draws, duplicate, empty, found, has, heading_at_position}
-pub use Rattle.gts_event.specs.Cited.{frame_of_draw, heading_of, heading_of_message, idle, index_where, is_bulletin, is_circuit_sound, is_kept, is_needed, is_recent, is_request, is_sound, is_there, items_of, keeps_one, kept_draws, kept_on, last_of, latest_draws, most_accepted, most_owed, need, need_of, no_heading, numbered_frame, on_circuit, outcome, owed_again, owed_last, owes_kept, places, places_of, positions_of, recent, recent_positions, restarted}
-pub use Rattle.gts_event.specs.Cited.{spoken, text_of, unused, verdict, waiting, with_bulletin, with_drawn, with_owed, with_repeated, with_routed}
+pub use Rattle.gts_event.specs.Cited.{Bulletin, Choice, CircuitNeed, CircuitState, Draws, IsExtentOf, IsOrdered, Need, Nothing_waits, Repeats, SameNeed, State, after, after_heard, after_take, again_on, anew_of, anew_on, all_owed_last, answer, answer_to, are_below, ascends, begins_with, begun, begun_circuit, body_of, bulletin_at, bulletin_of, choice, choice_of, circuit_need, circuit_need_of, circuit_needs, digits_on, drawn, draws, duplicate, empty, first_then, found, has, heading_at_position}
+pub use Rattle.gts_event.specs.Cited.{frame_of_draw, heading_of, heading_of_message, idle, index_where, is_bulletin, is_circuit_sound, is_kept, is_needed, is_recent, is_request, is_sound, is_there, items_of, keeps_one, kept_draws, kept_on, last_indices, last_of, latest_draws, most_accepted, most_owed, need, need_of, no_heading, numbered_frame, on_circuit, outcome, owed_again, owed_anew, owed_last, owes_kept, places, places_of, positions_of, recent, recent_positions, restarted}
+pub use Rattle.gts_event.specs.Cited.{spoken, text_of, unused, verdict, waiting, with_anew, with_bulletin, with_drawn, with_owed, with_repeated, with_routed}
 pub use Rattle.gts_event.specs.declared.event.Event.{Event}
-pub use Rattle.gts_event.specs.declared.event.Event.TheVariants.{Heard, Taken}
+pub use Rattle.gts_event.specs.declared.event.Event.TheVariants.{Anew, Heard, Taken}
 pub use Rattle.gts_event.specs.declared.outcome.Outcome.{Outcome}
 pub use Rattle.gts_event.specs.declared.outcome.Outcome.TheVariants.{Accepted, Draw, Nothing, Resend}
 pub use Rattle.gts_prioq.specs.Cited.{AllAbove, AreWaiting, Ascends, GoesNext, NothingWaits, PutsAt, TakesNext, Waiting, at_level, count_of, most_waiting, next_of, spare, without}

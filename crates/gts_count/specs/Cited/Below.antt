@@ -36,7 +36,7 @@ pub use Rattle.gts_event.specs.Cited.{duplicate, empty, found, frame_of_draw, ha
 pub use Rattle.gts_event.specs.declared.event.Entry.{Entry}
 pub use Rattle.gts_event.specs.declared.event.Entry.TheVariants.{Done, Doubt, Idle, Restarted, Unsaid}
 pub use Rattle.gts_event.specs.declared.event.Event.{Event}
-pub use Rattle.gts_event.specs.declared.event.Event.TheVariants.{Heard, Lost, Taken}
+pub use Rattle.gts_event.specs.declared.event.Event.TheVariants.{Anew, Heard, Lost, Taken}
 pub use Rattle.gts_event.specs.declared.fault.SwitchFault.{SwitchFault}
 pub use Rattle.gts_event.specs.declared.fault.SwitchFault.TheVariants.{DiskFault, Full, NoMemory, SayFault, Spent, Stopped}
 pub use Rattle.gts_event.specs.declared.outcome.Outcome.{Outcome}

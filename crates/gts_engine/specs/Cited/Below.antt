@@ -17,7 +17,7 @@ pub use Rattle.gts_event.specs.Cited.{spoken, spoken_of, waiting}
 pub use Rattle.gts_event.specs.declared.event.Entry.{Entry}
 pub use Rattle.gts_event.specs.declared.event.Entry.TheVariants.{Done, Doubt, Idle, Restarted, Unsaid}
 pub use Rattle.gts_event.specs.declared.event.Event.{Event}
-pub use Rattle.gts_event.specs.declared.event.Event.TheVariants.{Heard, Lost, Taken}
+pub use Rattle.gts_event.specs.declared.event.Event.TheVariants.{Anew, Heard, Lost, Taken}
 pub use Rattle.gts_event.specs.declared.fault.Device.{Device}
 pub use Rattle.gts_event.specs.declared.fault.Device.TheVariants.{Disk, Say}
 pub use Rattle.gts_event.specs.declared.fault.SwitchFault.{SwitchFault}

@@ -18,12 +18,12 @@ pub use Rattle.gts_request.specs.Cited.{Item}
 unfoldable pub use Rattle.gts_request.specs.Cited.{request_at}
 pub use Rattle.gts_request.specs.declared.fault.RequestField.{RequestField}
 pub use Rattle.gts_directory.specs.Cited.{Circuit, Directory, is_named, named}
-pub use Rattle.gts_event.specs.Cited.{Bulletin, Choice, CircuitNeed, CircuitState, Draws, EachOwedFew, EachRoutedOnce, HasPositions, IsHeld, IsOrdered, Need, Nothing_waits, Repeats, RoutedOnce, SameNeed, State, WasRead, after, after_all, after_entry, after_heard, after_take, all_done, all_owed_last, answer_to, begun, begun_circuit, body_of, choice, choice_of, circuit_need, circuit_of_event, draws, duplicate, empty, found, has, heading_of_message}
-pub use Rattle.gts_event.specs.Cited.{idle, is_bulletin, is_circuit_sound, is_here, is_needed, is_request, is_sound, items_of, keeps_one, most_accepted, most_owed, need, next, no_heading, nothing, on_circuit, outcome, owed_again, owed_last, places, restarted, said, verdict, waiting, with_bulletin, with_drawn, with_routed}
+pub use Rattle.gts_event.specs.Cited.{Bulletin, Choice, CircuitNeed, CircuitState, Draws, EachOwedFew, EachRoutedOnce, HasPositions, IsHeld, IsOrdered, Need, Nothing_waits, Repeats, RoutedOnce, SameNeed, State, WasRead, after, after_all, after_entry, after_heard, after_take, all_done, all_owed_last, answer_to, begins_with, begun, begun_circuit, body_of, choice, choice_of, circuit_need, circuit_of_event, draws, duplicate, empty, found, has, heading_of_message}
+pub use Rattle.gts_event.specs.Cited.{idle, is_bulletin, is_circuit_sound, is_here, is_needed, is_request, is_sound, items_of, keeps_one, most_accepted, most_owed, need, next, no_heading, nothing, on_circuit, outcome, owed_again, owed_anew, owed_last, places, restarted, said, verdict, waiting, with_bulletin, with_drawn, with_routed}
 pub use Rattle.gts_event.specs.declared.event.Entry.{Entry}
 pub use Rattle.gts_event.specs.declared.event.Entry.TheVariants.{Done, Doubt, Idle, Restarted, Unsaid}
 pub use Rattle.gts_event.specs.declared.event.Event.{Event}
-pub use Rattle.gts_event.specs.declared.event.Event.TheVariants.{Heard, Lost, Taken}
+pub use Rattle.gts_event.specs.declared.event.Event.TheVariants.{Anew, Heard, Lost, Taken}
 pub use Rattle.gts_event.specs.declared.fault.Device.TheVariants.{Disk, Say}
 pub use Rattle.gts_event.specs.declared.fault.SwitchFault.{SwitchFault}
 pub use Rattle.gts_event.specs.declared.fault.SwitchFault.TheVariants.{Full, NoMemory, Stopped}

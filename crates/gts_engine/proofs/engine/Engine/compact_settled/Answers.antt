@@ -1,4 +1,4 @@
-use Rattle.gts_engine.proofs.Cited.{rules, Bool, ◌≡◌, ◌-◌, ◌^◌, None, Ok, Err, Result, length, subst, ap, ◌∙◌, OnOk, IfErr, min, IfOk-at_ok, Directory, DiskFault, Engine, Full, GivesRoom, Holds, IsRewritten, IsWriteFault, Need, Needs, NoMemory, SayFault, Spent, State, StaysAt, Stopped, SwitchFault, checkpoint_text, engine_of, full_compacted, need_of}
+use Rattle.gts_engine.proofs.Cited.{rules, Bool, ◌≡◌, ◌-◌, ◌^◌, None, Ok, Err, Result, length, subst, ap, ◌∙◌, OnOk, IfErr, min, IfOk-at_ok, Directory, DiskFault, Engine, GivesRoom, Holds, IsRewritten, IsWriteFault, Need, Needs, NoMemory, State, StaysAt, SwitchFault, checkpoint_text, engine_of, full_compacted, need_of}
 use Rattle.gts_engine.proofs.StepLemmas.{idle_going}
 use Rattle.gts_engine.proofs.CompactLemmas.{stays_at}
 use Rattle.gts_engine.proofs.engine.Engine.compact_settled.Goals as goal
