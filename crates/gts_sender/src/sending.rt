@@ -67,7 +67,7 @@ fn begin_line<D: Desk, K: Sink>(
     ensures unwritten { K.observed → K.written sink.new ≡ K.written sink.old }
     ensures sound { K.faults sink.new ≡ K.faults sink.old }
 {
-    if line.again > 0 && sink.ready() {
+    if line.again > 0 && sink.ready(line.again) {
         desk.begin_anew(line.circuit, line.again)?;
     }
     Ok(())

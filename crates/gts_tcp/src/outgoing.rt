@@ -521,7 +521,7 @@ impl<R: Net<Listener = TcpListener, Stream = TcpStream> + Clock + Eprint> Sink f
     }
 
     /// Whether a connection was made since this was last asked. Where none stands, the port is tried once.
-    fn ready(&mut self) -> bool {
+    fn ready(&mut self, _again: u32) -> bool {
         self.way.is_renewed()
     }
 

@@ -90,7 +90,7 @@ impl Sink for Getting<'_> {
         Ok(piece.len())
     }
 
-    fn ready(&mut self) -> bool {
+    fn ready(&mut self, _again: u32) -> bool {
         false
     }
 
