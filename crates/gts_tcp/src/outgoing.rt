@@ -72,7 +72,13 @@ impl<R: Net<Listener = TcpListener, Stream = TcpStream> + Clock + Eprint> Way<'_
             return Err(not_connected());
         }
         goes_on(self.patience.stop)?;
-        let stream = dial_once(self.rt, self.place.host, self.place.output, milliseconds)?;
+        let stream = dial_once(
+            self.rt,
+            self.place.address,
+            self.place.host,
+            self.place.output,
+            milliseconds,
+        )?;
         stream.set_nodelay(true)?;
         bound(&stream, self.place.idle)?;
         stream.set_write_timeout(Some(Duration::from_millis(u64::from(LONGEST_WAIT))))?;

@@ -14,12 +14,15 @@ const QUIET: u16 = 60;
 /// How many of these questions may go unanswered, one behind each third of that time, until a connection is broken.
 const MOST_QUESTIONS: i32 = 3;
 
+/// The number of Linux's option of that name, which the C library has as `IP_BIND_ADDRESS_NO_PORT`.
+const PORT_AT_CALL: i32 = 24;
+
 /// The bytes of an option's value that is a number.
 const NUMBER_BYTES: u32 = 4;
 
 /// The options of a connection that are set here.
 #[derive(Clone, Copy)]
-enum Setting {
+pub(crate) enum Setting {
     /// How many bytes the system may hold that were written and not taken.
     SendBuffer,
     /// Whether the system asks a quiet neighbour's machine whether it is there.
@@ -30,10 +33,12 @@ enum Setting {
     NextQuestion,
     /// How many questions may go unanswered.
     MostQuestions,
+    /// Whether a socket that has an address of its own gets its port only when it calls.
+    PortAtCall,
 }
 
 /// The answer of a call, or why it failed.
-fn answered(status: i32) -> io::Result<()> {
+pub(crate) fn answered(status: i32) -> io::Result<()> {
     if status < 0 {
         return Err(io::Error::from_raw_os_error(os::errno()));
     }
@@ -41,7 +46,7 @@ fn answered(status: i32) -> io::Result<()> {
 }
 
 /// Sets an option of a connection to a number.
-fn set(stream: &TcpStream, setting: Setting, number: i32) -> io::Result<()> {
+pub(crate) fn set(stream: &TcpStream, setting: Setting, number: i32) -> io::Result<()> {
     let at = stream.as_raw_fd();
     let (socket, tcp) = (system::SOL_SOCKET, system::IPPROTO_TCP);
     let mut value = [0u8; 16];
@@ -63,6 +68,9 @@ fn set(stream: &TcpStream, setting: Setting, number: i32) -> io::Result<()> {
             }
             Setting::MostQuestions => {
                 system::setsockopt(at, tcp, system::TCP_KEEPCNT, &value, bytes)
+            }
+            Setting::PortAtCall => {
+                system::setsockopt(at, system::IPPROTO_IP, PORT_AT_CALL, &value, bytes)
             }
         }
     })
