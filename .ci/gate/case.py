@@ -234,7 +234,7 @@ class Case:
     def element(self, head, block):
         verb, _, rest = head.partition(' ')
         if verb == 'run':
-            self.run(rest.split(' ') if rest else [])
+            self.run(words_in(rest) if rest else [])
             return
         if self.ran is not None and self.wants(verb, rest, block):
             return
@@ -261,10 +261,15 @@ class Case:
             if head == 'run init':
                 write('journal.0', b'GTSJ0002' + self.mark('directory.toml') + b'C')
             elif verb == 'run':
-                return look(rest.split(' '))
+                return look(words_in(rest))
             else:
                 self.given(verb, rest, block)
         raise Fault('the case runs init alone')
+
+
+def words_in(text):
+    """The words of a run: a blank inside a word is written `<20>`."""
+    return [word.replace('<20>', ' ') for word in text.split(' ')]
 
 
 def look(words):

@@ -16,5 +16,5 @@ pub use Rattle.gts_frame.proofs.TestLemmas.{IsFirst, find-first, find-none, firs
 pub use Rattle.gts_replay.specs.Cited.{IsUnfailed}
 pub use Rattle.gts_traits.proofs.OutsideLemmas.{on-append}
 pub use Rattle.gts_traits.proofs.SayLemmas.{front_behind, front_more, said_more}
-pub use Rattle.gts_accum.specs.Cited.{AllByRecursion, AllDigits, An, AreSteps, BadAt, Bare, Begins, Breaks, Call, Carries, Connections, Covers, CutAt, Decoding, Directory, Done, ENTRY_HEAD, ETX, EndHead, Ended, Ending, Ends, EndsEarly, EndsInFeed, EndsInHead, Entry, Event, FRAME_HEAD, Failed, Feed, FeedHead, Format, Frame, FrameField, FrameStep, HasFileCause, HasReplayCause, HasUnpackCause, Head, Heard, Holds, IsBad, IsBadAt, IsBadStream, IsEndAt, IsEndOf, IsEntry, IsFile, IsFileEnd, IsFileOf, IsFramed, IsFront, IsHead, IsHeadFront, IsLeft, IsNext, IsPartialHead, IsPiece, IsPlaceMet, IsSize, IsSound, IsStream, IsStreamFront, IsStreamWithin, IsWhole, Journaled, KeepAlive, KeepsAlive, LONGEST_BARE, LONGEST_CAPTURE, LONGEST_FILE, LONGEST_MESSAGE, LONGEST_STREAM, Lost, MOST_DUE, Makes, Next, Outside, PackEnd, Packs, Passes, Piece, PieceEnds, Reading, ReadsOn, Reopen, ReopenHead, ReplayEnd, Rest, SOH, SameFiles, SaysFront, SaysOnly, Shows, Sign, Standing, Stands, StandsFor, State, Step, Stop, Takes, Tells, UnpackEnd, UnpackedParts, Unpacking, Unpacks, Unsaid, Whole, after_all, after_step, ahead, ahead_of, all_done, back_of, bad_ahead, bad_in, bad_in_stream, badplace, begins_format, begins_head, begins_kind, begins_length, begins_message, behind, break_of, capture_left, capture_of, captured, cut_at, dec, digits_of, digits_value, due, ending_steps, ending_text, entries_from, entries_in, entries_text, entry_rest, entry_text, events_added, events_in, file_of, file_of_messages, find, format_in, frame, front_of, given_by, has_length, head_of, head_seen, head_text, held_in, is_ascii_digit, is_front, keep_alive, length_in, letters, list_all, longest, loss_in, message_in, message_size, messages_of, missing, on, only, open_part, opening, packed, part_seen, piece_text, place_of, range_with_len, read_from, readable, reading, reading_from, rest_of, signs_in, signs_of, signs_of_step, size_in, slice_index_or, slice_set, starts_with, step_text, steps_in, steps_read, stream_seen, to_come, unpacking_of, whole, with_bytes, with_entry}
+pub use Rattle.gts_accum.specs.Cited.{HasCause, IsApart, IsReady, KeepsFailed, left_ahead, Ahead, AllByRecursion, AllDigits, An, AreSteps, BadAt, Bare, Begins, Breaks, Call, Carries, Connections, Covers, CutAt, Decoding, Directory, Done, ENTRY_HEAD, ETX, EndHead, Ended, Ending, Ends, EndsEarly, EndsInFeed, EndsInHead, Entry, Event, FRAME_HEAD, Failed, Feed, FeedHead, Format, Frame, FrameField, FrameStep, Gives, HasEnough, HasFileCause, HasReplayCause, HasUnpackCause, Head, Heard, Holds, IsBad, IsBadAt, IsBadStream, IsEndAt, IsEndOf, IsEntry, IsFile, IsFileEnd, IsFileOf, IsFramed, IsFront, IsHead, IsHeadFront, IsLeft, IsNext, IsPartialHead, IsPiece, IsPlaceMet, IsSize, IsSound, IsStream, IsStreamFront, IsStreamWithin, IsWhole, Journaled, KeepAlive, KeepsAlive, LONGEST_BARE, LONGEST_CAPTURE, LONGEST_FILE, LONGEST_MESSAGE, LONGEST_STREAM, Lost, MOST_DUE, Makes, Next, Outside, PackEnd, Packs, Passes, Piece, PieceEnds, Reading, ReadsOn, Reopen, ReopenHead, ReplayEnd, Rest, SOH, SameFiles, SaysFront, SaysOnly, Shows, Sign, Standing, Stands, StandsFor, State, Step, Stop, Takes, Tells, UnpackEnd, UnpackedParts, Unpacking, Unpacks, Unsaid, Whole, after_all, after_step, ahead, ahead_of, all_done, back_of, bad_ahead, bad_in, bad_in_stream, badplace, begins_format, begins_head, begins_kind, begins_length, begins_message, behind, break_of, capture_left, capture_of, captured, cut_at, dec, digits_of, digits_value, due, ending_steps, ending_text, entries_from, entries_in, entries_text, entry_rest, entry_text, events_added, events_in, file_of, file_of_messages, find, format_in, frame, front_of, given_by, has_length, head_of, head_seen, head_text, held_in, is_ascii_digit, is_front, keep_alive, length_in, letters, list_all, longest, loss_in, message_in, message_size, messages_of, missing, on, only, open_part, opening, packed, part_seen, piece_text, place_of, range_with_len, read_from, readable, reading, reading_from, rest_of, signs_in, signs_of, signs_of_step, size_in, slice_index_or, slice_set, starts_with, step_text, steps_in, steps_read, stream_seen, to_come, unpacking_of, whole, with_bytes, with_entry}
 pub use Rattle.gts_accum.specs.declared.end.UnpackEnd.TheVariants.{Bad}

@@ -1,5 +1,5 @@
 -- What is due of the bytes that were taken of a file is short.
-use Rattle.gts_accum.proofs.Cited.{ℕ, ◌+◌, ◌≤◌, List, [], ◌∷◌, length, arith, lt-ltb, append-nil, length-append, length-drop, length-take, Bare, Format, Head, IsNext, IsSound, MOST_DUE, Next, UnpackedParts, Whole, back_of, due, opening, to_come, unpacking_of, common_steps}
+use Rattle.gts_accum.proofs.Cited.{ℕ, ◌+◌, ◌<◌, ◌≤◌, List, [], ◌∷◌, length, arith, lt-ltb, append-nil, length-append, length-drop, length-take, Bare, Format, Head, IsNext, IsSound, MOST_DUE, Next, UnpackedParts, Whole, back_of, due, opening, to_come, unpacking_of, common_steps}
 use Rattle.gts_accum.specs.declared.next.Next.TheVariants.{Entry}
 use Rattle.gts_accum.proofs.ReadLemmas.{length-opening}
 use Rattle.gts_accum.proofs.UnpackingLemmas.{head-cut}
@@ -7,6 +7,9 @@ use Rattle.gts_accum.proofs.UnpackingLemmas.{head-cut}
 pub opening_short : (c : ℕ) (format : Format) (size : ℕ) → length (opening c format size) + 2 ≤ MOST_DUE
 opening_short c Whole size = omega (arith, length-opening c Whole size)
 opening_short c Bare size = omega (arith, length-opening c Bare size)
+
+pub opening_some : (c : ℕ) (format : Format) (size : ℕ) → 0 < length (opening c format size)
+opening_some c format size = omega (arith, length-opening c format size)
 
 pub back_short : (format : Format) → length (back_of format) + 2 ≤ MOST_DUE
 back_short Whole = omega arith

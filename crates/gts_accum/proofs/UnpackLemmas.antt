@@ -1,5 +1,7 @@
 -- How the run of a file ended, by the run of the capture that it stands for.
-use Rattle.gts_accum.proofs.Cited.{◌≡◌, ℕ, ◌<◌, ◌≤◌, List, [], ◌++◌, length, Option, Some, None, inl, inr, refl, sym, subst, arith, append-nil, Bad, Directory, Ended, EndsEarly, HasFileCause, HasReplayCause, HasUnpackCause, IsEndAt, IsEndOf, IsFileEnd, IsLeft, IsPlaceMet, IsWhole, Journaled, ReplayEnd, Standing, StandsFor, Step, UnpackEnd, Unpacks, badplace, captured, readable, reading, steps_read, IsUnfailed, reads_once, early_is_none, common_steps}
+use Rattle.gts_accum.specs.Traced.{IsSince, whether_failed}
+use Rattle.gts_traits.specs.Cited.{Rose}
+use Rattle.gts_accum.proofs.Cited.{Ahead, Bool, true, false, ap, ◌∙◌, ◌-◌, ◌^◌, if◌then◌else◌, ◌≡◌, ℕ, ◌<◌, ◌≤◌, List, [], ◌++◌, length, Option, Some, None, inl, inr, refl, sym, subst, arith, append-nil, Bad, Directory, Ended, EndsEarly, HasFileCause, HasReplayCause, HasUnpackCause, IsEndAt, IsEndOf, IsFileEnd, IsLeft, IsPlaceMet, IsWhole, Journaled, ReplayEnd, Standing, StandsFor, Step, UnpackEnd, Unpacks, badplace, captured, readable, reading, steps_read, IsUnfailed, reads_once, early_is_none, common_steps}
 use Rattle.gts_replay.specs.Cited.{Ends}
 use Rattle.gts_event.specs.declared.event.Entry.{Entry}
 use Rattle.gts_connection.specs.Cited.{Reading}
@@ -53,14 +55,14 @@ told meanings station observed o h _ old new file left c few here tell ends othe
 pub from-end : {O W : Type 0} (meanings : Standing O W) (station observed : Type 0) (r : ReplayEnd) (old new : W) (file left : List ℕ) (c : ℕ)
     → length (meanings.directory old).circuits ≤ 100 → c < length (meanings.directory old).circuits → ((at : ℕ) → r ≡ end.Capture at → ⊥)
     → ((o : O) (h : List Entry) → StandsFor meanings o (length h) h old → Ends meanings station Journaled o h observed r old new (captured file c) left)
-    → (now : List ℕ) → (observed → IsLeft file now c left) → Unpacks meanings station observed (Ended r) old new file now c
+    → (now : List ℕ) → (r ≡ end.SourceFault → observed → IsLeft file now c left) → Unpacks meanings station observed (Ended r) old new file now c
 from-end meanings station observed r old new file left c few here other ends now taken = record {
   replayed = r;
   left = left;
   is = uncut r (Ended r) other refl;
   ends = ends;
   place = λ o h stands tell. told meanings station observed o h r old new file left c few here tell (ends o h stands) other;
-  source = λ e tell. inr (taken tell);
+  source = λ e tell. inr (taken (cc) tell);
 }
 
 -- it did
@@ -112,6 +114,44 @@ from-cut meanings station observed at (Ended end.SourceFault) old new file left 
 from-cut meanings station observed at (Ended _) old new file left c few here ends kind met now = absurd kind
 
 -- ---- causes
+
+-- it has failed where that rose
+pub has_failed : {S : Type 0} (old new : Ahead S) → whether_failed old ≡ 0 → Rose (whether_failed old) (whether_failed new) → new.failed ≡ true
+has_failed old new none rose = go new.failed refl
+  where
+    go : (f : Bool) → new.failed ≡ f → new.failed ≡ true
+    go true is = is
+    go false is =
+        let now : whether_failed new ≡ 0 = ap (λ (f : Bool). if f then 2 ^ 64 - 1 else 0) is in
+        absurd (grind (arith, common_steps))
+
+has_not : {S : Type 0} (new : Ahead S) → whether_failed new ≡ 0 → new.failed ≡ false
+has_not new none = go new.failed refl
+  where
+    go : (f : Bool) → new.failed ≡ f → new.failed ≡ false
+    go false is = is
+    go true is =
+        let now : whether_failed new ≡ 2 ^ 64 - 1 = ap (λ (f : Bool). if f then 2 ^ 64 - 1 else 0) is in
+        absurd (omega (arith, now, none))
+
+-- the run of a capture that is made of a source which is read ahead: the source's own count
+pub cause-of-source : {S : Type 0} (faults : S → ℕ) (before : ℕ) (r : ReplayEnd) (disk disk_now say say_now : ℕ) (old new : Ahead S) → HasReplayCause r disk disk_now say say_now (whether_failed old) (whether_failed new)
+    → old.failed ≡ false → IsSince faults before new → HasReplayCause r disk disk_now say say_now before (faults new.source)
+cause-of-source faults before r disk disk_now say say_now old new k sound since =
+    let none : whether_failed old ≡ 0 = ap (λ (f : Bool). if f then 2 ^ 64 - 1 else 0) sound in
+    record {
+      disk_later = k.disk_later;
+      say_later = k.say_later;
+      source_later = since.later;
+      disk_failed = k.disk_failed;
+      compaction_failed = k.compaction_failed;
+      reopen_failed = k.reopen_failed;
+      say_failed = k.say_failed;
+      source_failed = λ e. since.rose (has_failed old new none (k.source_failed e));
+      sound = λ u.
+          let still = k.sound u in
+          (still.0, still.1, since.still (has_not new (still.2 ∙ none)));
+    }
 
 pub cause-end : (r : ReplayEnd) (disk disk_now say say_now source source_now : ℕ) → HasReplayCause r disk disk_now say say_now source source_now
     → HasUnpackCause (Ended r) disk disk_now say say_now source source_now

@@ -7,6 +7,7 @@ pub use Rattle.gts_accum.specs.Packing.{IsFileOf, bad_in_stream, cut_at, entries
 pub use Rattle.gts_accum.specs.Streams.{IsBadStream, IsStreamWithin}
 pub use Rattle.gts_accum.specs.Packs.{CountsPack, Holds, IsBad, IsTaken, Packs, PieceEnds, SameFiles, Stands, entries_in}
 pub use Rattle.gts_accum.specs.Unpacking.{Gives, IsAtEnd, IsPast, Passes, Rest, Unpacking, ahead, ahead_of, bad_ahead, behind, capture_left, due, entry_rest, given_by, met, rest_of, to_come}
+pub use Rattle.gts_accum.specs.Ahead.{Ahead, HasEnough, IsApart, IsReady, KeepsFailed, left_ahead}
 pub use Rattle.gts_accum.specs.Judging.{Judges}
 pub use Rattle.gts_accum.specs.UnpackedParts.{IsNext, IsSound, missing, unpacking_of}
 pub use Rattle.gts_accum.specs.Traced.{Covers, IsLeft}

@@ -1,4 +1,5 @@
 ghost use Rattle.std.specs.Prelude.{◌≡◌, ◌<◌, length};
+ghost use Rattle.gts_accum.specs.Traced.{IsSince};
 ghost use Rattle.gts_accum.specs.Cited.{CountsUnpack, HasFileCause, IsFileEnd, IsPlaceMet, Unpacks, badplace};
 
 use crate::traced::{OfFile, Traced};
@@ -15,7 +16,9 @@ use std::marker::Brand;
 fn end_of_file<S: Source, B: OfFile>(traced: &mut Traced<S, B>, at: u64) -> UnpackEnd
     ensures told { S.observed → IsPlaceMet (badplace B.file) result }
     ensures kind { IsFileEnd result }
-    ensures cause { HasFileCause result (S.faults traced.old.source) (S.faults traced.new.source) }
+    ensures since { IsSince S.faults B.faults traced.old.source }
+    ensures cause { HasFileCause result (S.faults traced.old.source.source)
+        (S.faults traced.new.source.source) }
 {
     match traced.bad() {
         Ok(place) => UnpackEnd::Bad {
@@ -34,6 +37,7 @@ fn unpack_of<W: Switch, S: Source, B: OfFile>(
 ) -> (UnpackEnd, S)
     requires file { S.observed → S.left file ≡ B.file }
     requires picked { c ≡ B.circuit }
+    requires faults { S.faults file ≡ B.faults }
     requires circuit { c < length (W.meanings.directory switch.old).circuits }
     ensures ends { Unpacks W.meanings W.observed S.observed result.0
         switch.old switch.new (S.left file) (S.left result.1) c }

@@ -14,6 +14,7 @@ pub use Rattle.gts_app.specs.Compact.{Compacts, IsCompactEnd, IsCompacted, IsToo
 pub use Rattle.gts_app.specs.Serve.{BecauseFullThen, BecauseNoMemory, CameTo, HasEndCause, IsUnhindered, Ran, Serves, ServesIn, status_of_fault, status_served}
 pub use Rattle.gts_app.specs.Pack.{KeepsFiles, PackedAs, PacksStream, status_packed}
 pub use Rattle.gts_app.specs.Gaps.{NamedAs, NamesGaps, status_named}
+pub use Rattle.gts_app.specs.Inspect.{InspectedAs, Inspects}
 pub use Rattle.gts_app.specs.Unpack.{HasNoCircuit, IsStatusOf, Unpacks, capture_meanings, status_unpacked, unpacked}
 pub use Rattle.gts_app.specs.Migrate.{AreRead, IsBegunUnder, IsCalm, IsRefusedBy, LeavesJournal, MayGo, MigratedAs, Migrates, ReadsBoth, RefusesWaiting, SaysFrontSince, UnderBoth, status_migrated}
 pub use Rattle.gts_app.specs.Trying.{MayHaveSaid, Tried, TriedAs, TriesMigration}

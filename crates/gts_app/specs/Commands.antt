@@ -1,18 +1,20 @@
 -- The words that name a command.
 use Rattle.std.specs.Prelude.{◌≡◌, ℕ, List, Some}
-use Rattle.gts_app.specs.Cited.Below.{Command, Moment, Since, Unpack, command_of}
+use Rattle.gts_app.specs.Cited.Below.{CheckFrom, CheckHeading, Command, Moment, Since, Unpack, command_of}
 use Rattle.gts_app.specs.declared.world.World.{World}
 
 -- the words name a command
 abbrev pub IsCommand : List (List ℕ) → Type 0
 IsCommand words = (command : Command) × (command_of words ≡ Some command)
 
--- the command names a circuit, which the directory might not have
+-- the command names a circuit, which the directory might not have, or the front of a heading, which might be none
 abbrev pub NamesCircuit : Command → Type 0
 NamesCircuit (Unpack c) = Unit {0}
+NamesCircuit (CheckHeading heading) = Unit {0}
+NamesCircuit (CheckFrom heading from) = Unit {0}
 NamesCircuit _ = ⊥
 
--- the words name a command, and no circuit
+-- the words name a command, and neither a circuit nor a heading
 abbrev pub IsSettled : List (List ℕ) → Type 0
 IsSettled words = (command : Command) × (command_of words ≡ Some command) × (NamesCircuit command → ⊥)
 

@@ -1,5 +1,5 @@
 ghost use Rattle.std.specs.Prelude.{◌≡◌, ◌⊎◌, ℕ, List, Some, None};
-ghost use Rattle.gts_app.specs.Cited.{Compacts, CountsTraffic, FollowsFeed, Generates, Inits, IsCommand, IsNoCapture, IsSettled, Migrates, NamesGaps, NoneFailed, PacksStream, Replays, ServesIn, ShipsFeed, Shows, TriesMigration, Unpacks, WithDirectoryAlone, command_of, lines_seen as seen, moment_at, since_at};
+ghost use Rattle.gts_app.specs.Cited.{Compacts, CountsTraffic, FollowsFeed, Generates, Inits, Inspects, IsCommand, IsNoCapture, IsSettled, Migrates, NamesGaps, NoneFailed, PacksStream, Replays, ServesIn, ShipsFeed, Shows, TriesMigration, Unpacks, WithDirectoryAlone, command_of, lines_seen as seen, moment_at, since_at};
 
 use crate::commands::check::check;
 use crate::commands::compact::compact;
@@ -8,6 +8,7 @@ use crate::commands::follow::follow;
 use crate::commands::gaps::gaps;
 use crate::commands::generate::generate;
 use crate::commands::init::init;
+use crate::commands::inspect::{Bulletin, inspect};
 use crate::commands::migrate::migrate;
 use crate::commands::pack::pack;
 use crate::commands::replay::replay;
@@ -36,7 +37,7 @@ fn ended<S, P>(status: Status, world: World<S, S, P>) -> Ended<S, P>
 }
 
 /// Runs the command that the words name: `init`, `replay`, `serve`, `show`, `compact`, `generate`, `migrate`, `migrate drop`,
-/// `migrate check`, `unpack`, `pack`, `gaps`, `ship`, `follow` or `count`. What it worked on is handed back.
+/// `migrate check`, `unpack`, `pack`, `gaps`, `ship`, `follow`, `count` or `check`. What it worked on is handed back.
 pub fn run<R, S, P, L, G>(
     rt: &R,
     alloc: Global,
@@ -105,6 +106,15 @@ where
         → (result.world.directory ≡ world.directory) × (result.world.capture ≡ world.capture)
         × Generates P.Station result.status count world.station result.world.station }
 
+    ensures check { command_of words.now ≡ Some Command.Check
+        → Inspects S.Source P.Station result.status world result.world }
+    ensures check_heading { (heading : List ℕ)
+        → command_of words.now ≡ Some (Command.CheckHeading heading)
+        → Inspects S.Source P.Station result.status world result.world }
+    ensures check_from { (heading : List ℕ) (from : ℕ)
+        → command_of words.now ≡ Some (Command.CheckFrom heading from)
+        → Inspects S.Source P.Station result.status world result.world }
+
     // Bytes that are no capture of the directory are not done.
     ensures no_capture { command_of words.now ≡ Some Command.Replay → S.observed → P.observed
         → IsNoCapture (S.left world.directory) (S.left world.capture)
@@ -155,5 +165,18 @@ where
         }
         Command::ServeAlways => serve(rt, alloc, world, lines, WITHOUT_END, gate),
         Command::Generate { count } => ended(generate(alloc, &mut world, count), world),
+        Command::Check => ended(inspect(alloc, &mut world, None), world),
+        Command::CheckHeading { heading } => {
+            let bulletin = Bulletin {
+                heading,
+                from: None,
+            };
+            ended(inspect(alloc, &mut world, Some(bulletin)), world)
+        }
+        Command::CheckFrom { heading, from } => {
+            let from = Some(from);
+            let bulletin = Bulletin { heading, from };
+            ended(inspect(alloc, &mut world, Some(bulletin)), world)
+        }
     }
 }

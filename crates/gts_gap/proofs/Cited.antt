@@ -14,7 +14,8 @@ pub use Rattle.gts_replay.proofs.DecoderLemmas.{decode_at, decode_fresh, decode_
 pub use Rattle.gts_replay.proofs.EndLemmas.{two_each}
 pub use Rattle.gts_replay.proofs.FollowLemmas.{cut_in}
 pub use Rattle.gts_replay.proofs.LawLemmas.{at_bad, at_end, begins, one_step}
-pub use Rattle.gts_replay.proofs.RunLemmas.{ReadsHead, head_here}
+pub use Rattle.gts_replay.proofs.RunLemmas.{head_here}
+pub use Rattle.gts_replay.specs.Reading.{ReadsHead}
 pub use Rattle.gts_replay.proofs.StepLemmas.{takes_end, takes_more, takes_none}
 pub use Rattle.gts_request.specs.Request.{number_at, ◌>>=◌}
 pub use Rattle.gts_traits.proofs.OutsideLemmas.{on-append}

@@ -1,9 +1,10 @@
 -- What proofs of this crate cite of its definitions, of the standard library and of crates below, in one place.
 pub use Rattle.std.proofs.Common.{Bool, Err, IfOk, IsErrAnd, IsTrue, List, MatchResult, None, Ok, Option, Result, Some, [], ap, append_assoc, arith, bit_or, codes, cond, count_by, decimal, drop, false, flat_map, get_or, if◌then◌else◌, inl, inr, length, map, min, nat_le, nat_lt, not, refl, replicate, rules, slice_get, subst, suc, sum, sym, take, true, zero, ℕ, ◌%◌, ◌&&◌, ◌*◌, ◌++◌, ◌+◌, ◌-◌, ◌/◌, ◌<◌, ◌==◌, ◌^◌, ◌||◌, ◌∙◌, ◌∷◌, ◌≡◌, ◌≢◌, ◌≤◌}
 pub use Rattle.std.proofs.Math.ListN.{set}
+pub use Rattle.std.proofs.Math.Seq.{take-append-add}
 pub use Rattle.std.proofs.lemmas.Bool.{and_from, and_parts, cases_lt, eq-eqb, eqb-true, le-leb, leb-true, lt-leb, lt-ltb, ltb-false, ltb-true, ne_eqb, or_cases}
 pub use Rattle.std.proofs.lemmas.Grind.{common_steps, flat_map-append}
-pub use Rattle.std.proofs.lemmas.List.{append-nil, drop-drop, get_or-set_other, get_or-set_same, get_or_past, length-append, length-drop, length-map, length-take, map-append, set_past, take-append-drop, take_all, take_at, take_more, take_rest}
+pub use Rattle.std.proofs.lemmas.List.{append-nil, drop-drop, get_or-set_other, get_or-set_same, get_or_past, length-append, length-drop, length-map, length-take, length-take-le, map-append, set_past, take-append-drop, take-append-le, take_all, take_at, take_more, take_rest}
 pub use Rattle.std.proofs.lemmas.List.Elements.{filter-append}
 pub use Rattle.std.proofs.lemmas.List.Folds.{list_all-append}
 pub use Rattle.std.proofs.lemmas.List.FromFn.{length-enumerate_from, length-range_with_len, map-range_with_len_more}
@@ -11,6 +12,7 @@ pub use Rattle.std.proofs.lemmas.List.Sums.{sum_by-append, sum_by-cons, sum_by-s
 pub use Rattle.std.proofs.lemmas.Option.{get_or_from_slice_get, slice_get_within}
 pub use Rattle.std.proofs.lemmas.Result.{IfOk-at_ok}
 unfoldable pub use Rattle.std.specs.Fmt.{digits}
+pub use borrow.Rule.Slice.PartMut.{post_of, put_mid}
 pub use Rattle.sha2.specs.Sha256.{sha256}
 pub use Rattle.gts_connection.proofs.LawLemmas.{connection-unique, entries_here, reads_once, whole_is_read}
 pub use Rattle.gts_event.proofs.LawLemmas.{body-read, draw_index, heading_of_message-read, held-all, held-begun, keeps_get, kept-frame_of_draw, nothing-sound, nothing_there, ordered-all, ordered-begun, was_read}

@@ -1,5 +1,5 @@
 -- Pieces of a capture, one behind another.
-use Rattle.gts_generate.proofs.Cited.{◌≡◌, ℕ, suc, zero, ◌+◌, ◌-◌, ◌*◌, ◌<◌, List, [], ◌∷◌, ◌++◌, length, take, drop, min, map, refl, sym, ◌∙◌, ap, append_assoc, arith, codes, flat_map, append-nil, take-append-drop, take_at, length-append, length-take, length-drop, map-range_with_len_more, flat_map-append, Drain, Step, capture, capture_from, dec, ending, pieces_from, pieces_left, range_with_len, step_text, steps_of, turn, common_steps}
+use Rattle.gts_generate.proofs.Cited.{◌≡◌, ℕ, suc, zero, ◌+◌, ◌-◌, ◌*◌, ◌<◌, ◌≤◌, List, [], ◌∷◌, ◌++◌, length, take, drop, min, map, refl, subst, sym, ◌∙◌, ap, append_assoc, post_of, put_mid, take-append-add, take-append-le, length-take-le, arith, codes, flat_map, append-nil, take-append-drop, take_at, length-append, length-take, length-drop, map-range_with_len_more, flat_map-append, Drain, Step, capture, capture_from, dec, ending, pieces_from, pieces_left, range_with_len, step_text, steps_of, turn, common_steps}
 
 -- one more circuit is drained
 pub drains-more : (c : ℕ) → flat_map step_text (map Drain (range_with_len 0 (c + 1)))
@@ -54,3 +54,24 @@ reads_on left rest into count is_least ready =
           let room_before : 0 < length into = omega (arith, length-append (take count left) (drop count into), length-drop count into) in
           ready (omega arith),
     )
+
+-- a piece behind the first bytes of a buffer
+filled : (a k n : ℕ) (xs ys : List ℕ) → a ≤ length xs → n ≤ length ys → take (a + n) (put_mid a k xs ys) ≡ take a xs ++ take n ys
+filled a k n xs ys within few =
+    let after : List ℕ = post_of a k xs in
+    let front : length (take a xs) ≡ a = length-take-le a xs within in
+    ap (λ (m : ℕ). take (m + n) (take a xs ++ (ys ++ after))) (sym front) ∙ take-append-add (take a xs) (ys ++ after) n
+    ∙ ap (λ (zs : List ℕ). take a xs ++ zs) (take-append-le n ys after few)
+
+pub handed-more : (old mid now : List ℕ) (a k n : ℕ) (xs ys : List ℕ) → a ≤ length xs → n ≤ length ys → old ≡ take a xs ++ mid → mid ≡ take n ys ++ now
+    → old ≡ take (a + n) (put_mid a k xs ys) ++ now
+handed-more old mid now a k n xs ys within few first second =
+    first ∙ ap (λ (l : List ℕ). take a xs ++ l) second ∙ sym (append_assoc (take a xs) (take n ys) now) ∙ ap (λ (l : List ℕ). l ++ now) (sym (filled a k n xs ys within few))
+
+-- and one that is empty
+pub handed-none : (old mid now : List ℕ) (a k n : ℕ) (xs ys : List ℕ) → a ≤ length xs → n ≡ 0 → old ≡ take a xs ++ mid → mid ≡ take n ys ++ now
+    → old ≡ take a (put_mid a k xs ys) ++ now
+handed-none old mid now a k n xs ys within none first second =
+    let P : ℕ → Type 0 = λ m. old ≡ take m (put_mid a k xs ys) ++ now in
+    let all : a + n ≡ a = omega (arith, none) in
+    subst P all (handed-more old mid now a k n xs ys within (omega (arith, none)) first second)

@@ -1,4 +1,4 @@
-ghost use Rattle.std.specs.Prelude.{◌≡◌, ◌+◌, ◌<◌, ◌≤◌, ◌++◌, [], length, IfOk, IsOk, IfSome, IsSome, IsNone};
+ghost use Rattle.std.specs.Prelude.{◌≡◌, ◌+◌, ◌<◌, ◌≤◌, ◌++◌, [], length, take, IfOk, IsOk, IfSome, IsSome, IsNone};
 ghost use Rattle.gts_generate.specs.Cited.{HasCause, IsSound, Takes, bytes_left, pieces_left};
 ghost use Rattle.gts_generate.specs.Day as day;
 
@@ -85,6 +85,41 @@ fn fill(parts: &mut GeneratedParts)
     }
 }
 
+/// Gives of the next piece what there is room for.
+fn hand_on(parts: &mut GeneratedParts, into: &mut [u8]) -> usize
+    requires { IsSound parts.old }
+    ensures sound { IsSound parts.new }
+    ensures bytes { bytes_left parts.old ≡ take result into.new ++ bytes_left parts.new }
+    ensures end { result ≡ 0 → 0 < length into.new → bytes_left parts.old ≡ [] }
+    ensures count { result ≤ length into.new }
+{
+    fill(parts);
+    let left = &parts.piece.bytes()[parts.taken..];
+    let count = left.len().min(into.len());
+    into[..count].copy_from_slice(&left[..count]);
+    parts.taken += count;
+    count
+}
+
+/// Gives what comes next, piece by piece, as much as there is room for.
+fn hand_all(parts: &mut GeneratedParts, into: &mut [u8]) -> usize
+    requires { IsSound parts.old }
+    ensures sound { IsSound parts.new }
+    ensures bytes { bytes_left parts.old ≡ take result into.new ++ bytes_left parts.new }
+    ensures end { result ≡ 0 → 0 < length into.new → bytes_left parts.old ≡ [] }
+    ensures count { result ≤ length into.new }
+{
+    let mut count = 0;
+    while count < into.len() {
+        let more = hand_on(parts, &mut into[count..]);
+        if more == 0 {
+            return count;
+        }
+        count += more;
+    }
+    count
+}
+
 impl Source for Generated {
     ghost observed = { Unit {0} };
 
@@ -101,11 +136,6 @@ impl Source for Generated {
         // Beside what the trait says.
         ensures never { IsOk result }
     {
-        fill(&mut self.parts);
-        let left = &self.parts.piece.bytes()[self.parts.taken..];
-        let count = left.len().min(into.len());
-        into[..count].copy_from_slice(&left[..count]);
-        self.parts.taken += count;
-        Ok(count)
+        Ok(hand_all(&mut self.parts, into))
     }
 }

@@ -1,6 +1,7 @@
 -- How a run ends.
-use Rattle.gts_replay.proofs.Cited.{◌≡◌, ℕ, ◌+◌, ◌*◌, ◌-◌, ◌^◌, ◌≤◌, ◌⊎◌, inl, inr, List, [], ◌∷◌, ◌++◌, length, Result, Ok, Err, refl, sym, ap, subst, ◌∙◌, arith, length-append, Bad, BreaksAtCompaction, BreaksOff, CaptureKind, Compact, Connections, Decoding, Directory, DoesStep, Done, EndHead, Ends, EndsEarlyOf, Entry, Feed, FeedHead, HasDone, Head, Held, IsBadAt, IsCut, IsDone, IsHeadOf, IsLasting, IsReadTo, IsSameCapture, IsSettling, IsStepOf, IsWholeOf, Journaled, LONGEST_CAPTURE, LacksMemory, LosesSource, OpenFault, ReplayEnd, Restart, SettlesBehind, SettlesTo, SourceFault, Standing, StandsFor, Step, StepFault, StoppedBefore, StopsAtCompaction, StopsAtFault, StopsAtRestart, StopsInHead, SwitchFault, TakesNoMore, bytes_of_step, connections_after, dec, end_of, entries_at, flat_map, head_text, no_bytes, origin_at, outcome_at, readable, readable_from, settled_end, state_at, step_text, reads, whole_is_read, early_is_none, common_steps}
+use Rattle.gts_replay.proofs.Cited.{◌≡◌, ℕ, ◌+◌, ◌*◌, ◌-◌, ◌^◌, ◌≤◌, ◌⊎◌, inl, inr, List, [], ◌∷◌, ◌++◌, length, Result, Ok, Err, refl, sym, ap, subst, ◌∙◌, arith, length-append, Bad, BreaksAtCompaction, BreaksOff, CaptureKind, Compact, Connections, Decoding, Directory, DoesStep, Done, EndHead, Ends, EndsEarlyOf, Entry, Feed, FeedHead, HasDone, Head, Held, IsBadAt, IsCut, IsDone, IsHeadOf, IsLasting, IsReadTo, IsSameCapture, IsSettling, IsStepOf, IsWholeOf, Journaled, LONGEST_CAPTURE, LacksMemory, LosesSource, OpenFault, ReadsHead, ReplayEnd, Restart, SettlesBehind, SettlesFirst, SettlesTo, SourceFault, Standing, StandsFor, Step, StepFault, StoppedBefore, StopsAtCompaction, StopsAtFault, StopsAtRestart, StopsInHead, SwitchFault, TakesNoMore, bytes_of_step, connections_after, dec, end_of, entries_at, flat_map, head_text, no_bytes, origin_at, outcome_at, readable, readable_from, settled_end, state_at, step_text, reads, whole_is_read, early_is_none, common_steps}
 use Rattle.gts_replay.specs.Cited.{head_of}
+use Rattle.gts_replay.specs.declared.head.Head.{Head as ProgramHead}
 use Rattle.gts_event.specs.declared.fault.SwitchFault.TheVariants as switch
 use Rattle.gts_record.specs.declared.fault.OpenFault.TheVariants as opening
 use Rattle.gts_replay.proofs.LawLemmas.{at_end, at_bad, taken_head}
@@ -8,7 +9,7 @@ use Rattle.gts_replay.specs.declared.end.ReplayEnd.TheVariants as end
 use Rattle.gts_replay.specs.declared.fault.StepFault.TheVariants as step
 use Rattle.gts_replay.proofs.GoingLemmas.{settled_all, settles_all}
 use Rattle.gts_replay.proofs.SureLemmas.{AllSure, sure_from, sure_front, stopped_before, uncompacted_before}
-use Rattle.gts_replay.proofs.RunLemmas.{Runs, ReadsHead, Gathered, head_here, stands_on, gathered_more, origin_done}
+use Rattle.gts_replay.proofs.RunLemmas.{Runs, Gathered, runs_settled, head_here, stands_on, gathered_more, origin_done}
 use Rattle.gts_replay.proofs.FollowLemmas.{Continues, continues_alone, continues_read, Follows, follows, TakesPart, part_taken, part_stopped, cut_in, lost_in}
 use Rattle.gts_replay.proofs.BreakingLemmas.{settling_stops, step_breaks, step_restart}
 
@@ -104,6 +105,22 @@ module _ {O W : Type 0} (meanings : Standing O W) (kind : CaptureKind) (station 
           stands = stands;
         }) settles
 
+    -- what was gathered could not be settled, before the source was to be read
+    pub ends_unsettled : (left : List ℕ) (fault : SwitchFault) (later : W) → IsSettling meanings (Err fault) now later
+        → (result : ReplayEnd) (last : W) → SettlesBehind meanings (end_of (step.Switch fault)) result later last
+        → (o : O) (h : List Entry) → StandsFor meanings o (length h) h begun → Ends meanings station kind o h observed result begun last bytes left
+    ends_unsettled left fault later settling result last settles o h start = go fault settling settles
+      where
+        g : Gathered meanings begun o h steps now
+        g = runs.stands o h start
+
+        stops : (f : SwitchFault) → IsSettling meanings (Err f) now later → StopsAtFault meanings kind o h observed f begun later bytes
+        stops f s = settling_stops meanings begun now o h steps g kind observed bytes f later (continues_read kind d observed bytes steps old (old.ahead ++ before) runs.read) s
+
+        go : (f : SwitchFault) → IsSettling meanings (Err f) now later → SettlesBehind meanings (end_of (step.Switch f)) result later last → Ends meanings station kind o h observed result begun last bytes left
+        go switch.NoMemory s settles = absurd (s.settles (origin_done meanings begun o h steps) g.stands.front g.stands.events g.stands.gathers)
+        go f s settles = rests o h (end.Fault f) result later last left (ends_as meanings station kind o h observed begun later bytes left (end.Fault f) (stops f s)) settles
+
     pub ends_never : (left : List ℕ) (at : ℕ) → 2 ^ 64 - 1 ≤ length steps
         → (result : ReplayEnd) (later : W) → SettlesBehind meanings (end.Capture at) result now later
         → (o : O) (h : List Entry) → StandsFor meanings o (length h) h begun → Ends meanings station kind o h observed result begun later bytes left
@@ -113,6 +130,23 @@ module _ {O W : Type 0} (meanings : Standing O W) (kind : CaptureKind) (station 
         omega (arith, many, two_each steps, r.place, r.within) in
         settled_ends o h steps now (runs.stands o h start) (continues_alone kind d observed bytes steps (λ t. absurd (never t))) (end.Capture at) result later left
         (λ stands. ends_as meanings station kind o h observed begun later bytes left (end.Capture at) record { steps = steps; early = λ t. absurd (never t); none = λ t. absurd (never t); stands = stands }) settles
+
+  -- The next head wasn't read: what was gathered could not be settled, or it was, and then the bytes were bad or the source failed.
+  pub ends_unread : (steps : List Step) (old : Held) (before : List ℕ) (ds : List Decoding) (now : W) → Runs meanings kind observed bytes begun steps old before ds now
+      → (new : Held) (after : List ℕ) (fault : StepFault) (later : W) → length d.circuits ≤ 100 → IsSameCapture old new
+      → (observed → (at : ℕ) → fault ≡ step.Capture (Bad at) → IsBadAt old (readable_from old.at (old.ahead ++ before)) at)
+      → (observed → fault ≡ step.Capture SourceFault → StopsInHead old new before after)
+      → SettlesFirst {T = ProgramHead} meanings (Err fault) now later
+      → (result : ReplayEnd) (last : W) → SettlesBehind meanings (end_of fault) result later last
+      → (o : O) (h : List Entry) → StandsFor meanings o (length h) h begun → Ends meanings station kind o h observed result begun last bytes after
+  ends_unread steps old before ds now runs new after (step.Capture (Bad at)) later few same bad stops settling result last settles o h start =
+      ends_bad steps old before ds later (runs_settled meanings kind observed bytes begun steps old before ds now later runs settling) after at few (λ t. bad t at refl) result last settles o h start
+  ends_unread steps old before ds now runs new after (step.Capture SourceFault) later few same bad stops settling result last settles o h start =
+      ends_source steps old before ds later (runs_settled meanings kind observed bytes begun steps old before ds now later runs settling) new after same (λ t. stops t refl) result last settles o h start
+  ends_unread steps old before ds now runs new after (step.Switch fault) later few same bad stops settling result last settles o h start =
+      ends_unsettled steps old before ds now runs after fault later settling result last settles o h start
+  ends_unread steps old before ds now runs new after (step.Reopen fault) later few same bad stops settling result last settles o h start = absurd settling
+  ends_unread steps old before ds now runs new after (step.Compaction fault) later few same bad stops settling result last settles o h start = absurd settling
 
 -- ---- in a step
 

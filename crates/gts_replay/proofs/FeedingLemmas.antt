@@ -1,8 +1,8 @@
 -- The bytes of a connection, piece by piece, and the entries that they add.
-use Rattle.gts_replay.proofs.Cited.{◌≡◌, ℕ, ◌-◌, List, [], ◌++◌, length, take, drop, Err, sym, ap, subst, ◌∙◌, arith, append-nil, take_all, BreaksOff, Decoding, Entry, IsFed, Standing, Stands, SwitchFault, all_done, events_added, held_in, added-twice, common_steps}
+use Rattle.gts_replay.proofs.Cited.{◌≡◌, ℕ, ◌-◌, List, [], ◌++◌, length, take, drop, Err, inl, inr, sym, ap, subst, ◌∙◌, arith, append-nil, take_all, BreaksOff, Decoding, Entry, IsFed, IsSettling, MayHaveSettled, Standing, Stands, SwitchFault, all_done, events_added, held_in, added-twice, common_steps}
 use Rattle.std.proofs.Common.{length-drop}
 use Rattle.std.proofs.lemmas.List.{append_assoc}
-use Rattle.gts_replay.proofs.GoingLemmas.{all_done-append, stands_same, then_goes, breaks_before}
+use Rattle.gts_replay.proofs.GoingLemmas.{all_done-append, stands_same, stands_settled, settles_all, settles_not, within_all, then_goes, breaks_before}
 
 -- what two pieces add
 pub done_twice : (c : ℕ) (before x y : List ℕ) → all_done (events_added c before (x ++ y)) ≡ all_done (events_added c before x) ++ all_done (events_added c (before ++ x) y)
@@ -29,6 +29,27 @@ module _ {O W : Type 0} (meanings : Standing O W) (c : ℕ) (old : Decoding) (be
         stands_same meanings o first ((h ++ front) ++ all_done (events_added c (before ++ bytes) piece)) (h ++ all_done (events_added c before (bytes ++ piece))) later
         (append_assoc h front (all_done (events_added c (before ++ bytes) piece)) ∙ ap (λ (x : List Entry). h ++ x) (sym (done_twice c before bytes piece))) more;
   }
+
+  -- what was gathered of it was settled
+  pub fed_settled : (bytes : List ℕ) (decoder : Decoding) (now later : W) → IsFed meanings c old begun bytes decoder now → MayHaveSettled meanings now later → IsFed meanings c old begun bytes decoder later
+  fed_settled bytes decoder now later fed (inl is) = subst (λ w. IsFed meanings c old begun bytes decoder w) (sym is) fed
+  fed_settled bytes decoder now later fed (inr settling) = record {
+    held = fed.held;
+    adds = λ before o first h is stands.
+        let x : List Entry = h ++ all_done (events_added c before bytes) in
+        let there = fed.adds before o first h is stands in
+        stands_settled meanings o first x later (within_all meanings o first x now there) (settles_all meanings o first x now later tt there settling);
+  }
+
+  -- settling it failed
+  pub breaks_settling : (bytes : List ℕ) (decoder : Decoding) (now later : W) (fault : SwitchFault) → IsFed meanings c old begun bytes decoder now → IsSettling meanings (Err fault) now later
+      → (before : List ℕ) (o : O) (first : ℕ) (h : List Entry) → old.held ≡ held_in before → Stands meanings o first h begun
+      → BreaksOff meanings (λ _. o) first h (all_done (events_added c before bytes)) fault later
+  breaks_settling bytes decoder now later fault fed settling before o first h is stands =
+      let front : List Entry = all_done (events_added c before bytes) in
+      let broken = settles_not meanings o first (h ++ front) [] now later fault (fed.adds before o first h is stands) settling in
+      let all = then_goes meanings o first h front [] (Err fault) later broken in
+      subst (λ (x : List Entry). BreaksOff meanings (λ _. o) first h x fault later) (append-nil front) all
 
   -- a piece broke off
   pub breaks_piece : (bytes piece : List ℕ) (decoder : Decoding) (now later : W) (fault : SwitchFault)

@@ -1,9 +1,8 @@
 -- The steps of a capture, as far as some of them were done.
-use Rattle.gts_replay.proofs.Cited.{◌≡◌, ℕ, ◌+◌, ◌<◌, ◌≤◌, List, [], ◌∷◌, ◌++◌, length, get_or, refl, sym, ap, subst, ◌∙◌, arith, append_assoc, length-append, AllByRecursion, CaptureKind, Compact, Connections, Directory, EndsBehind, EndsEarlyOf, Entry, Feed, FeedHead, Head, Held, IsHeadIn, IsHeadOf, IsInFeed, IsReadTo, IsStepOf, IsTaken, LONGEST_CAPTURE, ReadingOf, State, Step, StopsBehind, TakesNoMore, after_all, all_done, bytes_announced, bytes_of_step, compactions, compactions_from, connections_after, entries, entries_from, events_added, head_text, no_bytes, readable_from, step_text, with_bytes, append-nil, nil_from_length, entries_go_on, compactions_go_on, compactions_between}
+use Rattle.gts_replay.proofs.Cited.{◌≡◌, ℕ, ◌+◌, ◌<◌, ◌≤◌, List, [], ◌∷◌, ◌++◌, length, get_or, refl, sym, ap, subst, ◌∙◌, arith, append_assoc, length-append, AllByRecursion, CaptureKind, Compact, Connections, Directory, EndsBehind, EndsEarlyOf, Entry, Feed, FeedHead, Head, Held, IsHeadIn, IsHeadOf, IsInFeed, IsReadTo, IsStepOf, IsTaken, LONGEST_CAPTURE, ReadingOf, ReadsHead, State, Step, StopsBehind, TakesNoMore, after_all, all_done, bytes_announced, bytes_of_step, compactions, compactions_from, connections_after, entries, entries_from, events_added, head_text, no_bytes, readable_from, step_text, with_bytes, append-nil, nil_from_length, entries_go_on, compactions_go_on, compactions_between}
 use Rattle.gts_replay.specs.Cited.{head_of}
 use Rattle.gts_replay.proofs.LawLemmas.{one_step, in_feed, head_goes_on, feed_goes_on, taken_feed}
 use Rattle.gts_replay.proofs.FeedingLemmas.{done_twice}
-use Rattle.gts_replay.proofs.RunLemmas.{ReadsHead}
 
 -- ---- what of the capture was read
 

@@ -1,8 +1,8 @@
 -- Steps of a capture, one after another.
-use Rattle.gts_replay.proofs.Cited.{◌≡◌, ℕ, ◌+◌, ◌≤◌, List, [], ◌∷◌, ◌++◌, length, Ok, sym, ap, subst, ◌∙◌, arith, append_assoc, length-append, append-nil, AreStepsOf, CaptureKind, Compact, Connections, Decode, Decoding, Directory, DoesStep, Entry, FeedHead, Head, Held, IsHeadIn, IsHeadOf, IsReadTo, IsSameCapture, IsStepOf, LONGEST_CAPTURE, Standing, Stands, StandsFor, Step, Takes, after_step, at_start, bytes_announced, bytes_of_step, compacted_at, compactions_at, connections_after, count_at, entries_at, entries_of_step, first_after, head_text, no_bytes, origin_after, state_at, step_text, after_all-append, entries_go_on, connections_go_on, common_steps}
+use Rattle.gts_replay.proofs.Cited.{◌≡◌, ℕ, ◌+◌, ◌≤◌, List, [], ◌∷◌, ◌++◌, length, Ok, inl, inr, sym, ap, subst, ◌∙◌, arith, append_assoc, length-append, append-nil, AreStepsOf, CaptureKind, Compact, Connections, Decode, Decoding, Directory, DoesStep, Entry, FeedHead, Head, Held, IsHeadIn, IsHeadOf, IsReadTo, IsStepOf, MayHaveSettled, ReadsHead, Standing, Stands, StandsFor, Step, Takes, after_step, at_start, bytes_announced, bytes_of_step, compacted_at, compactions_at, connections_after, count_at, entries_at, entries_of_step, first_after, head_text, no_bytes, origin_after, state_at, step_text, after_all-append, entries_go_on, connections_go_on, common_steps}
 use Rattle.gts_replay.specs.Cited.{head_of}
 use Rattle.gts_replay.proofs.LawLemmas.{begins, one_step}
-use Rattle.gts_replay.proofs.GoingLemmas.{stands_same, within_all}
+use Rattle.gts_replay.proofs.GoingLemmas.{stands_same, stands_settled, settles_all, within_all}
 use Rattle.gts_replay.proofs.OriginLemmas.{AllWithin, wider, within_append, counts_more, origin_more}
 
 -- the origin behind steps that were done
@@ -29,18 +29,33 @@ pub record Runs {O W : Type 0} (meanings : Standing O W) (kind : CaptureKind) (o
   pub stands : (o : O) (h : List Entry) → StandsFor meanings o (length h) h begun → Gathered meanings begun o h steps now
   pub begins : (o : O) (h : List Entry) → meanings.begin (origin_done meanings begun o h steps) ≡ meanings.begin o
 
--- a head was read
-pub record ReadsHead (observed : Type 0) (head : Head) (old new : Held) (before after : List ℕ) : Type 0 where
-  pub told : observed → old.ahead ++ before ≡ head_text head ++ (new.ahead ++ after)
-  pub valid : IsHeadIn old.circuits old.kind head
-  pub feed : new.feed ≡ bytes_announced head
-  pub at : new.at ≡ old.at + length (head_text head)
-  pub within : new.at ≤ LONGEST_CAPTURE
-  pub same : IsSameCapture old new
-
 pub runs_none : {O W : Type 0} (meanings : Standing O W) (kind : CaptureKind) (observed : Type 0) (bytes : List ℕ) (begun : W) (held : Held) (ds : List Decoding)
     → held ≡ at_start (length (meanings.directory begun).circuits) kind → Decode ds (no_bytes (meanings.directory begun)) → Runs meanings kind observed bytes begun [] held bytes ds begun
 runs_none meanings kind observed bytes begun held ds is decode = grind (arith, common_steps, begins, stands_same, append-nil)
+
+-- what the steps gathered was settled
+pub runs_settled : {O W : Type 0} (meanings : Standing O W) (kind : CaptureKind) (observed : Type 0) (bytes : List ℕ) (begun : W) (steps : List Step) (held : Held) (left : List ℕ) (ds : List Decoding) (now later : W)
+    → Runs meanings kind observed bytes begun steps held left ds now → MayHaveSettled meanings now later → Runs meanings kind observed bytes begun steps held left ds later
+runs_settled meanings kind observed bytes begun steps held left ds now later runs (inl is) = subst (λ w. Runs meanings kind observed bytes begun steps held left ds w) (sym is) runs
+runs_settled meanings kind observed bytes begun steps held left ds now later runs (inr settling) = record {
+  circuits = runs.circuits;
+  of_kind = runs.of_kind;
+  taken = runs.taken;
+  are = runs.are;
+  read = runs.read;
+  decode = runs.decode;
+  stands = λ o h start.
+      let g = runs.stands o h start in
+      let p = origin_done meanings begun o h steps in
+      let x : List Entry = h ++ entries_at meanings begun o h steps in
+      record {
+        first = g.first;
+        least = g.least;
+        each = g.each;
+        stands = stands_settled meanings p g.first x later (within_all meanings p g.first x now g.stands) (settles_all meanings p g.first x now later tt g.stands settling);
+      };
+  begins = runs.begins;
+}
 
 -- ---- heads
 

@@ -1,9 +1,10 @@
 -- What a step took, and which entries it added.
-use Rattle.gts_replay.proofs.Cited.{◌≡◌, ℕ, ◌+◌, ◌<◌, ◌≤◌, List, [], ◌∷◌, ◌++◌, length, get_or, set, map, Result, Ok, Err, refl, sym, ap, subst, ◌∙◌, arith, append_assoc, length-append, append-nil, BreaksOff, Compact, CompactHead, Connections, Decode, Decoding, DoesStep, Drain, DrainHead, EndsBehind, Entry, Feed, FeedHead, Feeds, Head, Held, IsAnswered, IsCompacting, IsReopening, IsSameCapture, IsSettling, IsStepOf, LONGEST_CAPTURE, OpenFault, Outcome, Remains, Reopen, ReopenHead, Restart, RestartHead, Restarted, Standing, Stands, StandsFor, Step, StepFault, StopsBehind, StopsInFeed, SwitchFault, Take, TakeHead, Taken, Takes, TakesNoMore, all_done, bytes_of_step, entries_of_step, fresh, held_in, readable_from, restart_of, settled, state_at, takes_of_drain, HasTaken, Went, common_steps}
+use Rattle.gts_replay.proofs.Cited.{◌≡◌, ℕ, ◌+◌, ◌<◌, ◌≤◌, List, [], ◌∷◌, ◌++◌, length, take, min, get_or, set, map, Result, Ok, Err, refl, sym, ap, subst, ◌∙◌, arith, append_assoc, length-append, append-nil, BreaksOff, Compact, CompactHead, Connections, Decode, Decoding, DoesStep, Drain, DrainHead, EndsBehind, Entry, Bad, Feed, FeedHead, Feeds, Head, Held, IsAnswered, IsCompacting, IsFed, IsReopening, IsSameCapture, IsSettling, IsStepOf, MayHaveSettled, Passed, LONGEST_CAPTURE, OpenFault, Outcome, Remains, Reopen, ReopenHead, Restart, RestartHead, Restarted, SettlesFirst, SourceFault, Standing, Stands, StandsFor, Step, StepFault, StopsBehind, StopsInFeed, SwitchFault, Take, TakeHead, Taken, Takes, TakesNoMore, all_done, bytes_of_step, entries_of_step, fresh, held_in, readable_from, restart_of, settled, state_at, takes_of_drain, HasTaken, Went, common_steps}
 use Rattle.gts_replay.specs.Cited.{EndsInFeed}
 use Rattle.gts_event.specs.declared.fault.SwitchFault.TheVariants as switch
 use Rattle.gts_replay.specs.declared.fault.StepFault.TheVariants as step
 use Rattle.gts_replay.proofs.GoingLemmas.{stands_same, stands_settled, settles_all, settles_not, one_done, call_breaks}
+use Rattle.gts_replay.proofs.FeedingLemmas.{fed_settled, breaks_settling}
 use Rattle.gts_replay.proofs.DecoderLemmas.{decode_at, decode_set, decode_reopened}
 
 same_capture : (held : Held) → IsSameCapture held held
@@ -46,6 +47,62 @@ takes_at_most observed bytes piece old now new before left after taken told feed
   most = omega (arith, feed, taken.feed, length-append bytes piece);
   within = λ w. omega (arith, place, inside, taken.at, length-append bytes piece);
 }
+
+-- no more was taken than these bytes
+takes_only : (observed : Type 0) (bytes : List ℕ) (old now : Held) (before left : List ℕ) → Takes observed bytes old now before left → TakesNoMore observed bytes old before
+takes_only observed bytes old now before left taken = record {
+  rest = now.ahead ++ left;
+  told = taken.told;
+  most = omega (arith, taken.feed);
+  within = λ w. let inside = taken.within w in omega (arith, inside, taken.at);
+}
+
+-- The next bytes of a feed weren't read: what was gathered could not be settled, or it was, and then the bytes were bad or the source
+-- failed.
+pub feeds_unread : {O W : Type 0} (meanings : Standing O W) (observed : Type 0) (c : ℕ) (fault : StepFault) (bytes : List ℕ) (old now new : Held) (before left after : List ℕ) (decoder decoder_now : Decoding) (begun switch later : W)
+    → Takes observed bytes old now before left → IsFed meanings c decoder begun bytes decoder_now switch → 0 < now.feed
+    → (observed → (at : ℕ) → fault ≡ step.Capture (Bad at) → EndsInFeed now (readable_from now.at (now.ahead ++ left)) at)
+    → (observed → fault ≡ step.Capture SourceFault → StopsInFeed now new left after)
+    → SettlesFirst {T = ℕ} meanings (Err fault) switch later
+    → Feeds meanings observed c (Err fault) old new before after decoder decoder_now begun later
+feeds_unread meanings observed c (step.Capture (Bad at)) bytes old now new before left after decoder decoder_now begun switch later taken fed some bad source settles = record {
+  bytes = bytes;
+  taken = takes_end observed bytes old now before left at taken (λ t. bad t at refl);
+  fed = fed_settled meanings c decoder begun bytes decoder_now switch later fed settles;
+}
+feeds_unread meanings observed c (step.Capture SourceFault) bytes old now new before left after decoder decoder_now begun switch later taken fed some bad source settles = record {
+  bytes = bytes;
+  taken = takes_stop observed bytes old now new before left after taken (λ t. source t refl) some;
+  fed = fed_settled meanings c decoder begun bytes decoder_now switch later fed settles;
+}
+feeds_unread meanings observed c (step.Switch fault) bytes old now new before left after decoder decoder_now begun switch later taken fed some bad source settles = record {
+  bytes = bytes;
+  taken = takes_only observed bytes old now before left taken;
+  fed = breaks_settling meanings c decoder begun bytes decoder_now switch later fault fed settles;
+}
+feeds_unread meanings observed c (step.Reopen fault) bytes old now new before left after decoder decoder_now begun switch later taken fed some bad source settles = absurd settles
+feeds_unread meanings observed c (step.Compaction fault) bytes old now new before left after decoder decoder_now begun switch later taken fed some bad source settles = absurd settles
+
+pub all_small : (a b : ℕ) → 0 < a → min a b ≡ 0 → b ≡ 0
+all_small a b some least = grind (arith, common_steps)
+
+-- all bytes of a feed were read
+pub feeds_all : {O W : Type 0} (meanings : Standing O W) (observed : Type 0) (c : ℕ) (bytes into : List ℕ) (n : ℕ) (old now new : Held) (before left after : List ℕ) (decoder decoder_now : Decoding) (begun switch later : W)
+    → n ≡ 0 → now.feed ≡ 0 → Takes observed bytes old now before left → IsFed meanings c decoder begun bytes decoder_now switch → (observed → now.ahead ++ left ≡ take n into ++ (new.ahead ++ after))
+    → Passed now new n → IsSameCapture now new → MayHaveSettled meanings switch later
+    → Feeds meanings observed c (Ok tt) old new before after decoder decoder_now begun later
+feeds_all meanings observed c bytes into n old now new before left after decoder decoder_now begun switch later is_0 none taken fed told passed same settles =
+    let empty : take n into ≡ [] = ap (λ (k : ℕ). take k into) is_0 in
+    let size : length (take n into) ≡ 0 = ap length empty in
+    record {
+      bytes = bytes;
+      taken = (
+        subst (λ (x : List ℕ). Takes observed x old new before after) (ap (λ (x : List ℕ). bytes ++ x) empty ∙ append-nil bytes)
+            (takes_more observed bytes (take n into) old now new before left after taken told (omega (arith, size, is_0, passed.feed)) (omega (arith, size, is_0, passed.at)) passed.within same),
+        omega (arith, passed.feed, none),
+      );
+      fed = fed_settled meanings c decoder begun bytes decoder_now switch later fed settles;
+    }
 
 -- nothing was taken
 nothing_taken : (observed : Type 0) (held : Held) (left : List ℕ) → TakesNoMore observed [] held left

@@ -1,5 +1,5 @@
 -- The entries of a capture's steps were done, or are openings: none is in doubt, and none unsaid.
-use Rattle.gts_replay.proofs.Cited.{◌≡◌, List, [], ◌∷◌, ◌++◌, drop, ap, subst, Compact, Connections, Directory, Disk, Done, Doubt, Drain, Entry, Event, Feed, IsCause, IsCompactCause, Outcome, Reopen, Restart, Restarted, Say, State, Step, Stopped, StoppedBefore, SwitchFault, Take, Unsaid, after_all, after_step, all_done, entries_from, entries_of_step}
+use Rattle.gts_replay.proofs.Cited.{◌≡◌, List, [], ◌∷◌, ◌++◌, drop, ap, subst, Connections, Directory, Disk, Done, Doubt, Drain, Entry, Event, Feed, IsCause, IsCompactCause, Outcome, Restart, Restarted, Say, State, Step, Stopped, StoppedBefore, SwitchFault, Take, Unsaid, after_all, after_step, all_done, entries_from, entries_of_step}
 
 -- an entry was done, or is an opening
 abbrev pub Sure : Entry → Type 0

@@ -4,6 +4,7 @@ pub use Rattle.gts_replay.specs.Going.{BreaksAtRestart, Decode, IsFed, IsStart, 
 pub use Rattle.gts_replay.specs.Replay.{BreaksAtCompaction, Ends, HasDone, HasReplayCause, IsCut, IsDone, IsLasting, IsUnbegun, IsUnfailed, LacksMemory, LosesSource, StoppedBefore, StopsAtCompaction, StopsAtFault, StopsAtRestart, compactions_at, entries_at, origin_at}
 pub use Rattle.gts_replay.specs.Ending.{AreStill, DoesStep, EndsBehind, EndsSettled, Feeds, HasRunCause, HasSettleCause, IsStepOf, SettlesBehind, SettlesTo, StopsBehind, Takes, TakesNoMore, end_of, first_after, origin_after, settled_end}
 pub use Rattle.gts_replay.specs.Counts.{CountsRun, CountsSettling, CountsStep, EndsRun, EndsUnsettled}
+pub use Rattle.gts_replay.specs.Reading.{IsSettled, MayHaveSettled, ReadsHead, SettlesFirst}
 pub use Rattle.gts_replay.specs.Heads.{bytes_announced, has_journal, line_of}
 pub use Rattle.gts_replay.specs.HeadReading.{byte_where, digit_at, is_digit_below, is_letter}
 unfoldable pub use Rattle.gts_replay.specs.HeadReading.{behind_letter, circuit_at, digits_at, end_at, head_at, size_at}

@@ -2,6 +2,7 @@ pub mod Going
 pub mod Replay
 pub mod Ending
 pub mod Counts
+pub mod Reading
 pub mod Heads
 pub mod HeadReading
 pub mod Held

@@ -12,6 +12,7 @@ mod feeding;
 mod head;
 mod head_cursor;
 mod progress;
+mod reading;
 mod replaying;
 mod room;
 mod steps;

@@ -7,6 +7,7 @@ use crate::draining::drain;
 use crate::end::{ReplayEnd, end_after};
 use crate::fault::StepFault;
 use crate::feeding::feed;
+use crate::reading::next_head;
 use crate::room::Room;
 use crate::{Head, Steps};
 use gts_calls::Switch;
@@ -16,8 +17,8 @@ use std::alloc::Global;
 
 /// Runs a capture of this kind through a switch, up to its end or the first fault: bytes that come are heard frame by frame,
 /// each circuit over a connection of its own; takes, drains, restarts and compactions are the switch's. What feeds, takes and
-/// drains do may be gathered; it is settled before the journal is opened again or compacted, and at the end. Decoders, the
-/// room for a frame and that for a piece of a feed are made before the first step.
+/// drains do may be gathered; it is settled before the source is read, which may wait, before the journal is opened again or
+/// compacted, and at the end. Decoders, the room for a frame and that for a piece of a feed are made before the first step.
 pub fn replay<W: Switch, S: Source>(
     alloc: Global,
     switch: &mut W,
@@ -75,10 +76,10 @@ fn run<W: Switch, S: Source>(
         capture.old capture.new }
 {
     for _ in 0..u64::MAX {
-        let head = match steps.next(capture) {
+        let head = match next_head(switch, capture, steps) {
             Ok(Head::End) => return ReplayEnd::Done,
             Ok(head) => head,
-            Err(fault) => return end_after(StepFault::Capture(fault)),
+            Err(fault) => return end_after(fault),
         };
         if let Err(fault) = do_step(alloc, switch, capture, steps, room, head) {
             return end_after(fault);

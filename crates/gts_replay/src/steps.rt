@@ -129,7 +129,7 @@ impl Steps {
     }
 
     /// Reads the head at the front of what is held, and passes over it. Nothing changes where none stands there.
-    fn held_head(&mut self) -> Result<Head, Stop>
+    pub(crate) fn held_head(&mut self) -> Result<Head, Stop>
         ensures head { IfOk result (λ head.
             BeginsWithHead self.old.circuits self.old.kind self.old.ahead head self.new.ahead) }
         ensures stop { IfErr result (IsStop self.old.circuits self.old.kind self.old.ahead) }
@@ -167,6 +167,13 @@ impl Steps {
         self.start == self.end
     }
 
+    /// Whether something is held of the feed, or nothing is to come of it: then `bytes` reads nothing.
+    pub(crate) fn has_bytes(&self) -> bool
+        ensures { IsTrue result ↔ (self.now.ahead ≡ [] → self.now.feed ≡ 0) }
+    {
+        self.feed == 0 || !self.is_empty()
+    }
+
     /// Reads further bytes behind those that are held, and answers how many: 0 only at the source's end, and at that of the
     /// longest capture.
     fn fill<S: Source>(&mut self, source: &mut S) -> Result<usize, Failed>
@@ -196,7 +203,7 @@ impl Steps {
     }
 
     /// Hands on what is held of a feed, as far as there is room, and answers how many bytes these are.
-    fn hand_on(&mut self, into: &mut [u8]) -> usize
+    pub(crate) fn hand_on(&mut self, into: &mut [u8]) -> usize
         ensures taken { self.old.ahead ≡ take result into.new ++ self.new.ahead }
         ensures count { result ≡ min (min (length self.old.ahead) (length into.old)) self.old.feed }
         ensures passed { Passed self.old self.new result }

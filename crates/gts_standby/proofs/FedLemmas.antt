@@ -1,5 +1,5 @@
 -- The next record of a feed, by the bytes that were read ahead.
-use Rattle.gts_standby.proofs.Cited.{◌≡◌, ◌⊎◌, ⊎_elim, ℕ, ◌+◌, ◌-◌, ◌≤◌, Bool, true, false, cond, List, [], ◌∷◌, ◌++◌, length, replicate, Option, Some, None, refl, sym, ap, subst, ◌∙◌, arith, length-append, nat_lt, nat_le, is_some, append_assoc, le-ltb, nat_tests, Accept, An, Bi, Breaks, Broken, Cut, Done, Drew, Ends, Feed, FollowEnd, Fx, HasRead, InFeed, IsUnsealed, LONGEST, LONGEST_BODY, Piece, Record, Sealed, StopsAs, Taken, Version, by_piece, is_short, may_be_cut, may_begin, record_piece, record_size, record_text, rest_of, seal, seal_size, sealed, sealed_at, stopped, unsealed, record_at, record_at-found, record_at-stands, found_fits, length-sealed, sealed_at-found, sealed_at-stands, sealed_fits, few_bytes, common_steps}
+use Rattle.gts_standby.proofs.Cited.{◌≡◌, ◌⊎◌, ⊎_elim, inl, inr, ◌||◌, ℕ, ◌+◌, ◌-◌, ◌≤◌, Bool, true, false, cond, List, [], ◌∷◌, ◌++◌, length, replicate, Option, Some, None, refl, sym, ap, subst, ◌∙◌, arith, length-append, nat_lt, nat_le, is_some, append_assoc, le-ltb, nat_tests, Accept, An, Bi, Breaks, Broken, Cut, Done, Drew, Ends, Feed, FollowEnd, Fx, HasRead, InFeed, IsUnsealed, LONGEST, LONGEST_BODY, Piece, Record, Sealed, StopsAs, Taken, Version, by_piece, is_short, may_be_cut, may_begin, record_piece, record_size, record_text, rest_of, seal, seal_size, sealed, sealed_at, stopped, unsealed, record_at, record_at-found, record_at-stands, found_fits, length-sealed, sealed_at-found, sealed_at-stands, sealed_fits, few_bytes, common_steps, has_record, tells_next}
 use Rattle.gts_standby.proofs.HeaderLemmas.{no_more}
 
 -- ---- records at the front of bytes and of more
@@ -39,13 +39,62 @@ sealed_more v before p more r found =
 
 -- ---- what was read ahead
 
-abbrev pub IsEnough : InFeed → Type 0
-IsEnough ahead = (ahead.is_all ≡ true) ⊎ (LONGEST ≤ length ahead.bytes)
+abbrev pub IsEnough : Version → InFeed → Type 0
+IsEnough v ahead = tells_next v ahead ≡ true
+
+either : (a b : Bool) → (a || b) ≡ true → (a ≡ true) ⊎ (b ≡ true)
+either true b is = inl refl
+either false b is = inr is
+
+abbrev has_by : Version → List ℕ → Option Record → Bool
+has_by v bytes o = elim o as (λ _. Bool) [ None ↦ false | Some r ↦ nat_le (length (record_text r) + seal_size v) (length bytes) ]
+
+-- a record that is whole, with the bytes of its seal
+record HasWhole (v : Version) (bytes : List ℕ) : Type 0 where
+  r : Record
+  found : record_at bytes ≡ Some r
+  long : length (record_text r) + seal_size v ≤ length bytes
+
+whole_there : (v : Version) (bytes : List ℕ) → has_record v bytes ≡ true → HasWhole v bytes
+whole_there v bytes is = go (record_at bytes) refl
+  where
+    go : (o : Option Record) → record_at bytes ≡ o → HasWhole v bytes
+    go None none = absurd (let e : false ≡ true = sym (ap (has_by v bytes) none) ∙ is in cc e)
+    go (Some r) found =
+        let e : nat_le (length (record_text r) + seal_size v) (length bytes) ≡ true = sym (ap (has_by v bytes) found) ∙ is in record { r = r; found = found; long = grind (arith, nat_tests) }
+
+-- there is no more, or as many as the longest has, or a whole record stands there
+enough_cases : (v : Version) (ahead : InFeed) → IsEnough v ahead → (ahead.is_all ≡ true) ⊎ ((LONGEST ≤ length ahead.bytes) ⊎ HasWhole v ahead.bytes)
+enough_cases v ahead enough = ⊎_elim
+    (λ (all : ahead.is_all ≡ true). inl all)
+    (λ (other : (nat_le LONGEST (length ahead.bytes) || has_record v ahead.bytes) ≡ true). inr (⊎_elim
+    (λ (long : nat_le LONGEST (length ahead.bytes) ≡ true). inl (grind (arith, nat_tests)))
+    (λ (whole : has_record v ahead.bytes ≡ true). inr (whole_there v ahead.bytes whole))
+    (either (nat_le LONGEST (length ahead.bytes)) (has_record v ahead.bytes) other)))
+    (either ahead.is_all (nat_le LONGEST (length ahead.bytes) || has_record v ahead.bytes) enough)
+
+-- it is found in more bytes too
+whole_more : (v : Version) (p more : List ℕ) (w : HasWhole v p) → record_at (p ++ more) ≡ Some w.r
+whole_more v p more w =
+    let stands = (record_at-stands p w.r w.found).0 in
+    record_at-found w.r (p ++ more) (found_fits p w.r w.found)
+    (stands.0 ++ more, ap (λ (l : List ℕ). l ++ more) stands.1 ∙ append_assoc (record_text w.r) stands.0 more)
+
+-- so the record that is sealed there is this one
+whole_sealed : (v : Version) (before p more : List ℕ) (q : Record) → HasWhole v p → sealed_at v before (p ++ more) ≡ Some q → sealed_at v before p ≡ Some q
+whole_sealed v before p more q w found =
+    let stands = (sealed_at-stands v before (p ++ more) q found).0 in
+    let text : List ℕ = record_text q in
+    let there : record_at (p ++ more) ≡ Some q = record_at-found q (p ++ more) (sealed_fits v before (p ++ more) q found)
+    (seal v before text ++ stands.0, stands.1 ∙ append_assoc text (seal v before text) stands.0) in
+    let both : Some w.r ≡ Some q = sym (whole_more v p more w) ∙ there in
+    let same : w.r ≡ q = cc both in
+    sealed_front v before p more q found (omega (arith, length-sealed v before text, w.long, ap (λ (x : Record). length (record_text x)) same))
 
 pub sealed_read : (v : Version) (before fed left : List ℕ) (ahead : InFeed) (r : Record) → HasRead fed ahead left → sealed_at v before ahead.bytes ≡ Some r → sealed_at v before fed ≡ Some r
 sealed_read v before fed left ahead r read found = ap (sealed_at v before) read.is ∙ sealed_more v before ahead.bytes left r found
 
-none_among : (v : Version) (before fed left : List ℕ) (ahead : InFeed) → HasRead fed ahead left → IsEnough ahead → sealed_at v before ahead.bytes ≡ None → (o : Option Record) → o ≡ sealed_at v before fed → o ≡ None
+none_among : (v : Version) (before fed left : List ℕ) (ahead : InFeed) → HasRead fed ahead left → IsEnough v ahead → sealed_at v before ahead.bytes ≡ None → (o : Option Record) → o ≡ sealed_at v before fed → o ≡ None
 none_among v before fed left ahead read enough none None is = refl
 none_among v before fed left ahead read enough none (Some q) is =
     let found : sealed_at v before (ahead.bytes ++ left) ≡ Some q = ap (sealed_at v before) (sym read.is) ∙ sym is in
@@ -53,10 +102,13 @@ none_among v before fed left ahead read enough none (Some q) is =
     omega (arith, length-sealed v before (record_text q), few_bytes v, text_length q (sealed_at-stands v before (ahead.bytes ++ left) q found).1) in
     let there : sealed_at v before ahead.bytes ≡ Some q = ⊎_elim
     (λ (all : ahead.is_all ≡ true). ap (sealed_at v before) (sym (no_more fed left ahead read all)) ∙ sym is)
-    (λ (long : LONGEST ≤ length ahead.bytes). sealed_front v before ahead.bytes left q found (omega (arith, size, long))) enough in
+    (λ (other : (LONGEST ≤ length ahead.bytes) ⊎ HasWhole v ahead.bytes). ⊎_elim
+    (λ (long : LONGEST ≤ length ahead.bytes). sealed_front v before ahead.bytes left q found (omega (arith, size, long)))
+    (λ (whole : HasWhole v ahead.bytes). whole_sealed v before ahead.bytes left q whole found) other)
+    (enough_cases v ahead enough) in
     let both : Some q ≡ None = sym there ∙ none in absurd (cc both)
 
-pub none_read : (v : Version) (before fed left : List ℕ) (ahead : InFeed) → HasRead fed ahead left → IsEnough ahead → sealed_at v before ahead.bytes ≡ None → sealed_at v before fed ≡ None
+pub none_read : (v : Version) (before fed left : List ℕ) (ahead : InFeed) → HasRead fed ahead left → IsEnough v ahead → sealed_at v before ahead.bytes ≡ None → sealed_at v before fed ≡ None
 none_read v before fed left ahead read enough none = none_among v before fed left ahead read enough none (sealed_at v before fed) refl
 
 -- ---- a record that is cut is short
@@ -96,16 +148,26 @@ long_is_whole v bytes long = cut_none v bytes long (record_at bytes) refl
 
 -- ---- how a feed ends there
 
+-- it isn't where a whole record stands
+whole_uncut_there : (v : Version) (fed left : List ℕ) (ahead : InFeed) → HasRead fed ahead left → HasWhole v ahead.bytes → may_be_cut v fed ≡ false
+whole_uncut_there v fed left ahead read w =
+    let there : record_at fed ≡ Some w.r = ap record_at read.is ∙ whole_more v ahead.bytes left w in
+    let long : length (record_text w.r) + seal_size v ≤ length fed = omega (arith, w.long, ap (λ (l : List ℕ). length l) read.is, length-append ahead.bytes left) in
+    ap (cut_by v fed) there ∙ le-ltb (length fed) (length (record_text w.r) + seal_size v) long
+
 -- the feed as a whole is cut there, or isn't, as the answer says
-pub cut_fed : (v : Version) (fed left : List ℕ) (ahead : InFeed) → HasRead fed ahead left → IsEnough ahead → (ahead.is_all ≡ true → may_be_cut v ahead.bytes ≡ false) → may_be_cut v fed ≡ false
+pub cut_fed : (v : Version) (fed left : List ℕ) (ahead : InFeed) → HasRead fed ahead left → IsEnough v ahead → (ahead.is_all ≡ true → may_be_cut v ahead.bytes ≡ false) → may_be_cut v fed ≡ false
 cut_fed v fed left ahead read enough not_cut = ⊎_elim
     (λ (all : ahead.is_all ≡ true). ap (may_be_cut v) (no_more fed left ahead read all) ∙ not_cut all)
-    (λ (long : LONGEST ≤ length ahead.bytes). long_is_whole v fed (omega (arith, long, ap (λ (l : List ℕ). length l) read.is, length-append ahead.bytes left))) enough
+    (λ (other : (LONGEST ≤ length ahead.bytes) ⊎ HasWhole v ahead.bytes). ⊎_elim
+    (λ (long : LONGEST ≤ length ahead.bytes). long_is_whole v fed (omega (arith, long, ap (λ (l : List ℕ). length l) read.is, length-append ahead.bytes left)))
+    (λ (whole : HasWhole v ahead.bytes). whole_uncut_there v fed left ahead read whole) other)
+    (enough_cases v ahead enough)
 
 abbrev end_by : ℕ → Bool → Taken
 end_by at b = cond b (stopped Ends) (stopped (Breaks at))
 
-pub ends_there : (answer : FollowEnd) (v : Version) (fed left : List ℕ) (ahead : InFeed) (at : ℕ) → HasRead fed ahead left → IsEnough ahead → IsUnsealed answer v ahead at
+pub ends_there : (answer : FollowEnd) (v : Version) (fed left : List ℕ) (ahead : InFeed) (at : ℕ) → HasRead fed ahead left → IsEnough v ahead → IsUnsealed answer v ahead at
     → StopsAs answer (cond (may_be_cut v fed) (stopped Ends) (stopped (Breaks at))) left
 ends_there Done v fed left ahead at read enough is = grind (arith, common_steps, no_more)
 ends_there (Feed place) v fed left ahead at read enough is = record {
@@ -132,7 +194,7 @@ by_cut true at next = refl
 by_cut false at next = refl
 
 -- none was
-pub no_piece : (answer : FollowEnd) (v : Version) (before fed left : List ℕ) (ahead : InFeed) (at : ℕ) → HasRead fed ahead left → IsEnough ahead → sealed_at v before ahead.bytes ≡ None
+pub no_piece : (answer : FollowEnd) (v : Version) (before fed left : List ℕ) (ahead : InFeed) (at : ℕ) → HasRead fed ahead left → IsEnough v ahead → sealed_at v before ahead.bytes ≡ None
     → IsUnsealed answer v ahead at → (next : ℕ → List ℕ → Taken) → StopsAs answer (by_piece at (record_piece v before fed) next) left
 no_piece answer v before fed left ahead at read enough none is next =
     let same : by_piece at (record_piece v before fed) next ≡ end_by at (may_be_cut v fed) =

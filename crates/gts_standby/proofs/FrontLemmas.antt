@@ -147,7 +147,7 @@ reached_more limit p more k is = by_counts (front_counts p) refl is
         ap (behind_front limit (p ++ more)) (front_more p more (front_there limit p counts.1 counts.0 k is) ∙ e) ∙ counted_more limit p more counts.1 counts.0 k is
 
 -- so a checkpoint does
-checkpoint_more : (v : Version) (limit : ℕ) (before p more : List ℕ) (size : ℕ) (last : List ℕ) → checkpoint_piece v limit before p ≡ Sealed size last
+pub checkpoint_more : (v : Version) (limit : ℕ) (before p more : List ℕ) (size : ℕ) (last : List ℕ) → checkpoint_piece v limit before p ≡ Sealed size last
     → (checkpoint_piece v limit before (p ++ more) ≡ Sealed size last) × (size ≤ length p)
 checkpoint_more v limit before p more size last is =
     let s = sealed_parts v limit before p size last is in

@@ -1,5 +1,5 @@
 -- Whether a journal may begin anew with the checkpoint of a feed.
-use Rattle.gts_standby.proofs.Cited.{◌≡◌, ℕ, Bool, false, List, [], ◌∷◌, Some, None, refl, sym, ap, not, ◌||◌, map, nat_lt, zip, Breaks, Directory, FindsFurther, HasRead, InFeed, Need, State, Taken, begun_taken, circuit_need_of, is_behind, is_further, list_any, need, stopped, CircuitNeed, common_steps, arith}
+use Rattle.gts_standby.proofs.Cited.{◌≡◌, ℕ, Bool, false, List, [], ◌∷◌, Some, None, refl, sym, ap, not, ◌||◌, map, zip, Breaks, Directory, FindsFurther, HasRead, InFeed, Need, State, Taken, begun_taken, circuit_need_of, has_fewer, is_behind, is_further, list_any, need, stopped, CircuitNeed, common_steps, arith}
 use Rattle.gts_standby.proofs.FrontLemmas.{further_by}
 
 nothing_further : (d : Directory) (s : State) (t : Taken) → t.begins ≡ None → false ≡ is_further d s t
@@ -16,9 +16,9 @@ some_further d s fed ahead left n own behind begins own_is is read = grind (arit
 
 -- ---- on a circuit
 
--- of what is needed of each circuit the draws alone are compared
-pub fewer_seen : (fed own : List CircuitNeed) → list_any (λ pair. nat_lt pair.0.draws pair.1.draws) (zip fed own)
-    ≡ list_any (λ pair. nat_lt pair.0.draws pair.1.draws) (zip (map circuit_need_of fed) (map circuit_need_of own))
+-- what is needed of each circuit is compared
+pub fewer_seen : (fed own : List CircuitNeed) → list_any (λ pair. has_fewer (circuit_need_of pair.0) (circuit_need_of pair.1)) (zip fed own)
+    ≡ list_any (λ pair. has_fewer pair.0 pair.1) (zip (map circuit_need_of fed) (map circuit_need_of own))
 fewer_seen [] own = refl
 fewer_seen (one ∷ fed) [] = refl
-fewer_seen (one ∷ fed) (other ∷ own) = ap (λ (b : Bool). nat_lt one.draws other.draws || b) (fewer_seen fed own)
+fewer_seen (one ∷ fed) (other ∷ own) = ap (λ (b : Bool). has_fewer (circuit_need_of one) (circuit_need_of other) || b) (fewer_seen fed own)

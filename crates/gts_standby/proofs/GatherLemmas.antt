@@ -47,8 +47,8 @@ refused_there at before fed left r found = record {
 
 -- ---- the core holds the state behind the records
 
-module _ (observed stells : Type 0) (d : Directory) (s : State) (rs : List Record) (calls : List Call) (core : Core) (g : Gathering) (h : HoldsBehind observed d s rs calls core g) (ahead : InFeed) (left : List ℕ)
-    (size : ℕ) (core_now : Core) (next : Gathering) (ahead_now : InFeed) (left_now : List ℕ) (one : HasGatheredOne stells d core g ahead left size core_now next ahead_now left_now) where
+module _ (observed : Type 0) (d : Directory) (s : State) (rs : List Record) (calls : List Call) (core : Core) (g : Gathering) (h : HoldsBehind observed d s rs calls core g) (ahead : InFeed) (size : ℕ) (core_now : Core)
+    (next : Gathering) (ahead_now : InFeed) (one : HasGatheredOne d core g ahead size core_now next ahead_now) where
   abbrev t : State
   t = after_records d s rs
 
@@ -105,17 +105,17 @@ gathered_of observed d calls core g o = record { settled = o.settled; records = 
 pub can_gather : (observed : Type 0) (d : Directory) (calls : List Call) (core : Core) (g : Gathering) → IsGathering observed d calls core g → CanGather d core g
 can_gather observed d calls core g o = grind (arith, common_steps)
 
-pub gathered_one : (observed stells : Type 0) (d : Directory) (calls : List Call) (core : Core) (g : Gathering) (ahead : InFeed) (left : List ℕ) (size : ℕ) (core_now : Core) (next : Gathering) (ahead_now : InFeed) (left_now : List ℕ)
-    → IsGathering observed d calls core g → HasGatheredOne stells d core g ahead left size core_now next ahead_now left_now → IsGathering observed d calls core_now next
-gathered_one observed stells d calls core g ahead left size core_now next ahead_now left_now o one = record {
+pub gathered_one : (observed : Type 0) (d : Directory) (calls : List Call) (core : Core) (g : Gathering) (ahead : InFeed) (size : ℕ) (core_now : Core) (next : Gathering) (ahead_now : InFeed)
+    → IsGathering observed d calls core g → HasGatheredOne d core g ahead size core_now next ahead_now → IsGathering observed d calls core_now next
+gathered_one observed d calls core g ahead size core_now next ahead_now o one = record {
   settled = o.settled;
   records = o.records ++ one.r ∷ [];
-  holds = held_one observed stells d o.settled o.records calls core g o.holds ahead left size core_now next ahead_now left_now one;
+  holds = held_one observed d o.settled o.records calls core g o.holds ahead size core_now next ahead_now one;
 }
 
-pub gate_grows : (observed stells : Type 0) (d : Directory) (calls : List Call) (core : Core) (g : Gathering) (ahead : InFeed) (left : List ℕ) (size : ℕ) (core_now : Core) (next : Gathering) (ahead_now : InFeed) (left_now : List ℕ)
-    → IsGathering observed d calls core g → HasGatheredOne stells d core g ahead left size core_now next ahead_now left_now → gate_behind next ≡ gate_behind g + size + 1
-gate_grows observed stells d calls core g ahead left size core_now next ahead_now left_now o one = grind (arith, common_steps)
+pub gate_grows : (observed : Type 0) (d : Directory) (calls : List Call) (core : Core) (g : Gathering) (ahead : InFeed) (size : ℕ) (core_now : Core) (next : Gathering) (ahead_now : InFeed)
+    → IsGathering observed d calls core g → HasGatheredOne d core g ahead size core_now next ahead_now → gate_behind next ≡ gate_behind g + size + 1
+gate_grows observed d calls core g ahead size core_now next ahead_now o one = grind (arith, common_steps)
 
 -- ---- what was gathered is brought
 

@@ -1,5 +1,5 @@
 -- So many records of a feed were added to a journal, and so many gathered behind it.
-use Rattle.gts_standby.proofs.Cited.{◌≡◌, inl, inr, ℕ, ◌+◌, ◌-◌, ◌≤◌, cond, List, [], ◌∷◌, ◌++◌, length, drop, Option, Some, None, Ok, refl, sym, ap, subst, ◌∙◌, arith, length-append, length-drop, append-nil, Breaks, Call, Core, Directory, DiskFault, Done, EachSince, Ends, EndsAs, Feed, Files, FollowEnd, Gathered, Gathering, GathersNone, HasAdded, HasBrought, HasGatheredOne, HasRead, HoldsAt, HoldsBehind, InFeed, InHand, IsEnd, IsFedEnd, IsFinished, MayBring, MayHaveBrought, Need, NoMemory, OpensTo, OpensWithin, Outside, ReadsToOneOf, Record, SaidSince, SourceFault, StandsFor, State, StopsAt, Taken, Version, add_all, adding, after, after_records, chain_text, closed_gate, event_of_record, files_read, gate_behind, last_seal, may_be_cut, no_records, open_gate, read_after, read_at, read_begun, read_behind, read_with, record_behind, record_size, record_text, said_by, seal, sealed, seen, start_of, stopped, texts_of, written, started, joined, length-sealed, after_records-append}
+use Rattle.gts_standby.proofs.Cited.{◌≡◌, inl, inr, ℕ, ◌+◌, ◌-◌, ◌≤◌, cond, List, [], ◌∷◌, ◌++◌, length, drop, Option, Some, None, Ok, refl, sym, ap, subst, ◌∙◌, arith, length-append, length-drop, append-nil, Breaks, Call, Core, Directory, DiskFault, Done, EachSince, Ends, EndsAs, Feed, Files, FollowEnd, Gathered, Gathering, GathersNone, HasAdded, HasBrought, HasGatheredOne, HasRead, HoldsAt, HoldsBehind, InFeed, InHand, IsEnd, IsFedEnd, IsFinished, IsReadyEnd, MayBring, MayHaveBrought, Need, NoMemory, OpensTo, OpensWithin, Outside, ReadsToOneOf, Record, SaidSince, SourceFault, StandsFor, State, StopsAt, Taken, Version, add_all, adding, after, after_records, chain_text, closed_gate, event_of_record, files_read, gate_behind, last_seal, may_be_cut, no_records, open_gate, read_after, read_at, read_begun, read_behind, read_with, record_behind, record_size, record_text, said_by, seal, sealed, seen, start_of, stopped, texts_of, written, started, joined, length-sealed, after_records-append}
 use Rattle.std.proofs.lemmas.List.{append_assoc}
 use Rattle.gts_standby.proofs.AddLemmas.{next_is, read_now, opened_now, no_begin, not_empty, some_text, one_step, no_step}
 use Rattle.gts_standby.proofs.ReadLemmas.{as_before, with_front, images_read}
@@ -73,7 +73,7 @@ begun_there observed tell d s calls core j g at ahead left fed n h journal batch
       moments = started calls (OpensWithin d (read_at s j) all) (λ files image. as_before d (read_at s j) all files [] refl (images_read d s calls j (h.stands tell) files image));
     }
 
-module _ (observed stells : Type 0) (tell : observed) (stell : stells) (d : Directory) (s : State) (used : ℕ) (last : List ℕ) (all : Taken) (old mid : List Call) (core : Core) (x : Gathering) (at : ℕ) (ahead : InFeed) (left : List ℕ)
+module _ (observed : Type 0) (tell : observed) (d : Directory) (s : State) (used : ℕ) (last : List ℕ) (all : Taken) (old mid : List Call) (core : Core) (x : Gathering) (at : ℕ) (ahead : InFeed) (left : List ℕ)
     (g : HasGone observed d s used last all old mid core x at ahead left) where
   abbrev t : State
   t = after_records d g.settled g.more
@@ -158,16 +158,36 @@ module _ (observed stells : Type 0) (tell : observed) (stell : stells) (d : Dire
       subst (λ (y : Gathering). HasGone observed d s used last all old new core y at ahead left) (sym same.1) (subst (λ (l : List Call). HasGone observed d s used last all old l core x at ahead left) (sym same.0) g)
   room_made new next (inr brings) quiet may = all_brought new next (brings g.settled g.more g.holds.stands) quiet may
 
+  -- the feed was read on
+  pub read_further : (ahead_now : InFeed) (left_now : List ℕ) → ((rest : List ℕ) → HasRead rest ahead left → HasRead rest ahead_now left_now)
+      → HasGone observed d s used last all old mid core x at ahead_now left_now
+  read_further ahead_now left_now kept = record {
+    done = g.done;
+    more = g.more;
+    settled = g.settled;
+    settled_is = g.settled_is;
+    reads = g.reads;
+    fed = g.fed;
+    n = g.n;
+    enough = g.enough;
+    holds = g.holds;
+    read = kept g.fed g.read;
+    records = g.records;
+    end_is = g.end_is;
+    none = g.none;
+    silent = g.silent;
+    moments = g.moments;
+  }
+
   -- one more was gathered
-  pub one_more : (size : ℕ) (core_now : Core) (next : Gathering) (ahead_now : InFeed) (left_now : List ℕ) → HasGatheredOne stells d core x ahead left size core_now next ahead_now left_now
-      → HasGone observed d s used last all old mid core_now next (at + size) ahead_now left_now
-  one_more size core_now next ahead_now left_now one =
+  pub one_more : (size : ℕ) (core_now : Core) (next : Gathering) (ahead_now : InFeed) → HasGatheredOne d core x ahead size core_now next ahead_now → HasGone observed d s used last all old mid core_now next (at + size) ahead_now left
+  one_more size core_now next ahead_now one =
       let r : Record = one.r in
-      let found = one.read stell g.fed g.read in
-      let admitted = ok observed stells d g.settled g.more mid core x g.holds ahead left size core_now next ahead_now left_now one in
-      let gate = gate_on observed stells d g.settled g.more mid core x g.holds ahead left size core_now next ahead_now left_now one in
-      let seals = seal_on observed stells d g.settled g.more mid core x g.holds ahead left size core_now next ahead_now left_now one in
-      let states = state_on observed stells d g.settled g.more mid core x g.holds ahead left size core_now next ahead_now left_now one in
+      let found = one.read g.fed left g.read in
+      let admitted = ok observed d g.settled g.more mid core x g.holds ahead size core_now next ahead_now one in
+      let gate = gate_on observed d g.settled g.more mid core x g.holds ahead size core_now next ahead_now one in
+      let seals = seal_on observed d g.settled g.more mid core x g.holds ahead size core_now next ahead_now one in
+      let states = state_on observed d g.settled g.more mid core x g.holds ahead size core_now next ahead_now one in
       let here : record_behind written d x.batch.seal t (gate_behind x) g.fed ≡ Some r = next_is d x.batch.seal t (gate_behind x) g.fed r found.0 admitted in
       let rest : Taken = add_all written d (g.n - 1) (seal written x.batch.seal (record_text r)) (after d t (event_of_record r)) (gate_behind x + record_size written r) (at + (record_size written r - 1)) (drop (record_size written r - 1) g.fed) in
       let step : still d t x g.n at g.fed ≡ adding r rest = one_step d g.n x.batch.seal t (gate_behind x) at g.fed r g.enough here in
@@ -186,7 +206,7 @@ module _ (observed stells : Type 0) (tell : observed) (stell : stells) (d : Dire
         fed = drop size g.fed;
         n = g.n - 1;
         enough = omega (arith, length-drop size g.fed, g.enough, one.size_is, some_text r, not_empty d x.batch.seal t (gate_behind x) g.fed r here);
-        holds = held_one observed stells d g.settled g.more mid core x g.holds ahead left size core_now next ahead_now left_now one;
+        holds = held_one observed d g.settled g.more mid core x g.holds ahead size core_now next ahead_now one;
         read = found.1;
         records = g.records ∙ ap (λ (y : Taken). (g.done ++ g.more) ++ y.records) step ∙ sym (append_assoc (g.done ++ g.more) (r ∷ []) rest.records)
             ∙ ap (λ (l : List Record). l ++ rest.records) joined_so ∙ ap (λ (y : Taken). (g.done ++ (g.more ++ r ∷ [])) ++ y.records) same;
@@ -201,8 +221,15 @@ module _ (observed stells : Type 0) (tell : observed) (stell : stells) (d : Dire
   broke_off : (answer : FollowEnd) (new : List Call) (left_now : List ℕ) → (IsEnd answer → ⊥) → MayBring observed d mid x new → HasAdded answer d s used last all old new left_now
   broke_off answer new left_now fault may = record { ends = λ e. absurd (fault e); opened = λ e. absurd (fault e); reads = λ e. absurd (fault e); kept = λ e. absurd (fault e); moments = moments_on new may }
 
-  pub disk_failed : (answer : FollowEnd) (new : List Call) (left_now : List ℕ) → answer ≡ DiskFault → MayBring observed d mid x new → HasAdded answer d s used last all old new left_now
+  disk_failed : (answer : FollowEnd) (new : List Call) (left_now : List ℕ) → answer ≡ DiskFault → MayBring observed d mid x new → HasAdded answer d s used last all old new left_now
   disk_failed answer new left_now is may = subst (λ (e : FollowEnd). HasAdded e d s used last all old new left_now) (sym is) (broke_off DiskFault new left_now (λ e. e) may)
+
+  -- the feed couldn't be read on, or what was gathered be brought
+  pub not_ready : (answer : FollowEnd) (new : List Call) (left_now : List ℕ) → IsReadyEnd answer → MayBring observed d mid x new → HasAdded answer d s used last all old new left_now
+  not_ready DiskFault new left_now kind may = broke_off DiskFault new left_now (λ e. e) may
+  not_ready SourceFault new left_now kind may = broke_off SourceFault new left_now (λ e. e) may
+  not_ready NoMemory new left_now kind may = broke_off NoMemory new left_now (λ e. e) may
+  not_ready _ new left_now kind may = absurd kind
 
   ended : (answer : FollowEnd) (new : List Call) (next : Gathering) (left_now : List ℕ) → HasBrought observed d g.settled g.more x new next → MayBring observed d mid x new
       → record_behind written d x.batch.seal t (gate_behind x) g.fed ≡ None → StopsAt answer (cond (may_be_cut written g.fed) (stopped Ends) (stopped (Breaks at))) left_now
@@ -229,25 +256,25 @@ module _ (observed stells : Type 0) (tell : observed) (stell : stells) (d : Dire
         moments = moments_on new may;
       }
 
-  pub finished : (answer end : FollowEnd) (new : List Call) (y next : Gathering) (left_now : List ℕ) → IsFedEnd end → y ≡ x → GathersNone end stells d core x at ahead left left_now
-      → IsFinished answer end observed d mid y new next → MayBring observed d mid y new → HasAdded answer d s used last all old new left_now
-  finished answer end new y next left_now kind same stops done may =
+  pub finished : (answer end : FollowEnd) (new : List Call) (y next : Gathering) → IsFedEnd end → y ≡ x → GathersNone end d core x at ahead
+      → IsFinished answer end observed d mid y new next → MayBring observed d mid y new → HasAdded answer d s used last all old new left
+  finished answer end new y next kind same stops done may =
       by_done (subst (λ (z : Gathering). IsFinished answer end observed d mid z new next) same done)
     where
       may_here : MayBring observed d mid x new
       may_here = subst (λ (z : Gathering). MayBring observed d mid z new) same may
 
-      by_end : (e : FollowEnd) → IsFedEnd e → GathersNone e stells d core x at ahead left left_now → HasBrought observed d g.settled g.more x new next → HasAdded e d s used last all old new left_now
-      by_end Done kind none brought = let here = none stell t g.fed g.holds.kept g.read tt in ended Done new next left_now brought may_here here.0 here.1
-      by_end (Feed place) kind none brought = let here = none stell t g.fed g.holds.kept g.read tt in ended (Feed place) new next left_now brought may_here here.0 here.1
-      by_end SourceFault kind none brought = broke_off SourceFault new left_now (λ e. e) may_here
-      by_end NoMemory kind none brought = broke_off NoMemory new left_now (λ e. e) may_here
+      by_end : (e : FollowEnd) → IsFedEnd e → GathersNone e d core x at ahead → HasBrought observed d g.settled g.more x new next → HasAdded e d s used last all old new left
+      by_end Done kind none brought = let here = none t g.fed left g.holds.kept g.read tt in ended Done new next left brought may_here here.0 here.1
+      by_end (Feed place) kind none brought = let here = none t g.fed left g.holds.kept g.read tt in ended (Feed place) new next left brought may_here here.0 here.1
+      by_end SourceFault kind none brought = broke_off SourceFault new left (λ e. e) may_here
+      by_end NoMemory kind none brought = broke_off NoMemory new left (λ e. e) may_here
       by_end _ kind none brought = absurd kind
 
-      by_done : IsFinished answer end observed d mid x new next → HasAdded answer d s used last all old new left_now
+      by_done : IsFinished answer end observed d mid x new next → HasAdded answer d s used last all old new left
       by_done (inl both) =
-          subst (λ (e : FollowEnd). HasAdded e d s used last all old new left_now) (sym both.0) (by_end end kind stops (both.1 g.settled g.more g.holds.stands))
-      by_done (inr disk) = disk_failed answer new left_now disk may_here
+          subst (λ (e : FollowEnd). HasAdded e d s used last all old new left) (sym both.0) (by_end end kind stops (both.1 g.settled g.more g.holds.stands))
+      by_done (inr disk) = disk_failed answer new left disk may_here
 
 -- there was no memory at the beginning
 pub none_added : (observed : Type 0) → observed → (d : Directory) (s : State) (calls : List Call) (core : Core) (j : InHand) (all : Taken) (left : List ℕ) → HoldsAt observed d s calls core j → HasAdded NoMemory d s (j.gate + 1) j.seal all calls calls left

@@ -66,6 +66,14 @@ module _ (d : Directory) (file : ℕ) (bytes : List ℕ) (x : State × ℕ × Li
       let fits = fits-sound written d n may.sound (omega (arith, limit, may.room)) in
       sym (need_in-text n may.begins.0 fits) ∙ ap need_in (sym may.begins.1)
 
+  -- its text is read again
+  pub text_read : (more : List ℕ) → need_in (text ++ more) ≡ n
+  text_read more = need_in-text n more (fits-sound written d n may.sound (omega (arith, limit, may.room))) ∙ free
+
+  -- the journal goes on behind it
+  pub packed_reads : records_at written d (length bytes) file last (begun n) gate (drop gate bytes) ≡ Ok x
+  packed_reads = reads
+
   -- it is found, with its seal
   abbrev whole : ℕ
   whole = length text + seal_size written

@@ -60,11 +60,9 @@ pub record IsOvertaken (d : Directory) (own files : Files) (from : State × ℕ 
       → pointwise nat_eq first fed ≡ false
   pub further : is_behind (need_in (drop 41 (selected_bytes files))) (need d from.0) ≡ false
 
--- The journal in the first files has records, reads to this, and has this feed; and neither it nor the other one has a checkpoint.
-pub record HasPlainPart (d : Directory) (own files : Files) (from : State × ℕ × List ℕ) (fed : List ℕ) : Type 0 where
+-- The journal in these files has records, whatever the first of them is; it reads to this, and this is its feed.
+pub record HasPart (d : Directory) (own : Files) (from : State × ℕ × List ℕ) (fed : List ℕ) : Type 0 where
   pub is : IsFeedOf d own from fed
   pub first : List ℕ
   pub more : List (List ℕ)
   pub seals : own_seals d (selected_bytes own) ≡ first ∷ more
-  pub own_plain : is_checkpoint (selected_bytes own) ≡ false
-  pub plain : is_checkpoint (selected_bytes files) ≡ false

@@ -2,7 +2,7 @@
 use Rattle.std.specs.Prelude.{◌≡◌, ◌⊎◌, ℕ, ◌+◌, ◌-◌, ◌≤◌, true, List, [], ◌∷◌, ◌++◌, length, drop, if◌then◌else◌, Some, None, Result, Ok, Err}
 use Rattle.gts_standby.specs.Cited.Below.{AreNext, Call, Core, Directory, EachSince, FitsRecord, Follows, Gathers, IsKept, Record, StandsFor, State, admits, after_records, held, record_behind, record_size, record_text, seal, sealed_at, written}
 use Rattle.gts_standby.specs.declared.end.FollowEnd.{FollowEnd}
-use Rattle.gts_standby.specs.declared.end.FollowEnd.TheVariants.{DiskFault}
+use Rattle.gts_standby.specs.declared.end.FollowEnd.TheVariants.{DiskFault, NoMemory, SourceFault}
 use Rattle.gts_standby.specs.declared.gathering.Gathering.{Gathering}
 use Rattle.gts_standby.specs.Ahead.{InFeed}
 use Rattle.gts_standby.specs.Taking.{Ends, Breaks, stopped, may_be_cut}
@@ -54,8 +54,8 @@ pub record CanGather (d : Directory) (core : Core) (g : Gathering) : Type 0 wher
 
 -- One record more was gathered, which may stand behind the others in whatever state the core held; it then holds the state behind
 -- that. The feed goes on behind the record.
-pub record HasGatheredOne (observed : Type 0) (d : Directory) (core : Core) (g : Gathering) (ahead : InFeed) (left : List ℕ) (size : ℕ)
-    (core_now : Core) (next : Gathering) (ahead_now : InFeed) (left_now : List ℕ) : Type 0 where
+pub record HasGatheredOne (d : Directory) (core : Core) (g : Gathering) (ahead : InFeed) (size : ℕ)
+    (core_now : Core) (next : Gathering) (ahead_now : InFeed) : Type 0 where
   pub r : Record
   pub fits : FitsRecord r
   pub size_is : size ≡ record_size written r - 1
@@ -66,25 +66,33 @@ pub record HasGatheredOne (observed : Type 0) (d : Directory) (core : Core) (g :
   pub gathers : (before : List ℕ) (rs : List Record) → Gathers before rs g.batch → Gathers before (rs ++ r ∷ []) next.batch
   pub long : length next.batch.text ≡ length g.batch.text + record_size written r
   pub seal_is : held written next.seal ≡ seal written g.batch.seal (record_text r)
-  pub read : observed → (fed : List ℕ) → HasRead fed ahead left
-      → (sealed_at written g.batch.seal fed ≡ Some r) × HasRead (drop size fed) ahead_now left_now
+  pub read : (fed left : List ℕ) → HasRead fed ahead left
+      → (sealed_at written g.batch.seal fed ≡ Some r) × HasRead (drop size fed) ahead_now left
 
 -- the feed ends there, and no record was gathered
-abbrev pub GathersNone : FollowEnd → (observed : Type 0) → Directory → Core → Gathering → ℕ → InFeed → List ℕ → List ℕ → Type 0
-GathersNone answer observed d core g at ahead left left_now =
-    observed → (s : State) (fed : List ℕ) → IsKept written d core (gate_behind g) s → HasRead fed ahead left → IsEnd answer
+abbrev pub GathersNone : FollowEnd → Directory → Core → Gathering → ℕ → InFeed → Type 0
+GathersNone answer d core g at ahead =
+    (s : State) (fed left : List ℕ) → IsKept written d core (gate_behind g) s → HasRead fed ahead left → IsEnd answer
     → (record_behind written d g.batch.seal s (gate_behind g) fed ≡ None)
-    × StopsAs answer (if may_be_cut written fed then stopped Ends else stopped (Breaks at)) left_now
+    × StopsAs answer (if may_be_cut written fed then stopped Ends else stopped (Breaks at)) left
 
 -- one record more was to be gathered
-abbrev pub GathersNext : Result ℕ FollowEnd → (observed : Type 0) → Directory → Core → Gathering → ℕ → InFeed → List ℕ → Core → Gathering
-    → InFeed → List ℕ → Type 0
-GathersNext (Ok size) observed d core g at ahead left core_now next ahead_now left_now =
-    HasGatheredOne observed d core g ahead left size core_now next ahead_now left_now
-GathersNext (Err answer) observed d core g at ahead left core_now next ahead_now left_now =
-    GathersNone answer observed d core g at ahead left left_now
+abbrev pub GathersNext : Result ℕ FollowEnd → Directory → Core → Gathering → ℕ → InFeed → Core → Gathering → InFeed → Type 0
+GathersNext (Ok size) d core g at ahead core_now next ahead_now = HasGatheredOne d core g ahead size core_now next ahead_now
+GathersNext (Err answer) d core g at ahead core_now next ahead_now = GathersNone answer d core g at ahead
 
 -- ---- what was gathered is brought into the journal
+
+-- nothing is gathered: a batch of no record is its last gate
+abbrev pub IsSettled : Gathering → Type 0
+IsSettled g = length g.batch.text ≡ 1
+
+-- a device failed, or there was no memory, before the feed has ended
+abbrev pub IsReadyEnd : FollowEnd → Type 0
+IsReadyEnd DiskFault = Unit {0}
+IsReadyEnd SourceFault = Unit {0}
+IsReadyEnd NoMemory = Unit {0}
+IsReadyEnd end = ⊥
 
 -- The journal is at its end, which is that of the state behind the records; nothing is gathered.
 pub record HasBrought (observed : Type 0) (d : Directory) (s : State) (rs : List Record) (g : Gathering) (new : List Call)

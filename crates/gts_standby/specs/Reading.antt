@@ -1,6 +1,7 @@
 -- How a feed is read, and the ends of what is read of it.
-use Rattle.std.specs.Prelude.{◌≡◌, ℕ, zero, suc, Bool, true, false, List, [], ◌++◌, drop, Result, Ok, Err}
-use Rattle.gts_standby.specs.Cited.Below.{Version, held}
+use Rattle.std.specs.Prelude.{◌≡◌, ℕ, zero, suc, ◌+◌, Bool, true, false, ◌||◌, nat_le, List, [], ◌++◌, length, drop, Some, None, Result, Ok, Err}
+use Rattle.gts_standby.specs.Cited.Below.{Version, held, record_at, record_text, seal_size}
+use Rattle.gts_standby.specs.declared.fed.TheConstants.{LONGEST}
 use Rattle.gts_standby.specs.declared.end.FollowEnd.{FollowEnd}
 use Rattle.gts_standby.specs.declared.end.FollowEnd.TheVariants.{Done, Open, Feed, Diverged, SourceFault, DiskFault, NoMemory}
 use Rattle.gts_standby.specs.Ahead.{InFeed}
@@ -15,6 +16,14 @@ pub record HasRead (fed : List ℕ) (ahead : InFeed) (left : List ℕ) : Type 0 
 -- nothing was read yet
 abbrev pub unread : InFeed
 unread = record { bytes = []; is_all = false }
+
+-- a whole record stands at the front, with as many bytes as its seal has
+abbrev pub has_record : Version → List ℕ → Bool
+has_record v bytes = elim (record_at bytes) [ None ↦ false | Some r ↦ nat_le (length (record_text r) + seal_size v) (length bytes) ]
+
+-- The bytes that were read ahead tell the next record: there are no more, or as many as the longest has, or a whole one stands there.
+abbrev pub tells_next : Version → InFeed → Bool
+tells_next v ahead = ahead.is_all || (nat_le LONGEST (length ahead.bytes) || has_record v ahead.bytes)
 
 -- what may be answered where bytes of a feed are read
 abbrev pub IsReadEnd : FollowEnd → Type 0

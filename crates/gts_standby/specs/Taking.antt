@@ -1,6 +1,6 @@
 -- What a feed comes to where it is taken into a journal (profile): the records that are added, and how it ends.
 use Rattle.std.specs.Prelude.{ℕ, zero, suc, ◌+◌, ◌-◌, Bool, true, false, ◌&&◌, ◌||◌, not, ◌==◌, nat_eq, nat_lt, nat_le, is_some, if◌then◌else◌, List, [], ◌∷◌, ◌++◌, length, take, drop, replicate, zip, codes, Option, Some, None}
-use Rattle.gts_standby.specs.Cited.Below.{Bulletin, Circuit, Directory, FRONT, LONGEST_BODY, Listed, Need, Record, State, Version, admits_checkpoint, after, agreeing, begun, checkpoint_text, compacted_bytes, event_of_record, first_seal, front_counts, is_sealed, list_any, listed_size, magic, need, need_in, open_gate, pointwise, record_at, record_behind, record_size, record_text, seal, seal_size, sealed_at, starts_with}
+use Rattle.gts_standby.specs.Cited.Below.{Bulletin, Circuit, CircuitNeed, Directory, FRONT, LONGEST_BODY, Listed, Need, Record, State, Version, admits_checkpoint, after, agreeing, begun, checkpoint_text, compacted_bytes, event_of_record, first_seal, front_counts, is_sealed, list_any, listed_size, magic, need, need_in, open_gate, pointwise, record_at, record_behind, record_size, record_text, seal, seal_size, sealed_at, starts_with}
 
 -- How a feed ends: it is taken to its end; or it is bad at a place; or it has another record with a number, where these two seals
 -- stand, the journal's and the feed's.
@@ -204,10 +204,17 @@ abbrev pub begin_first : Version → Directory → List ℕ → List ℕ → Tak
 begin_first v d before bytes =
     by_piece 40 (checkpoint_piece v d.limit before bytes) (λ size fed. begin_with v d before size bytes (need_in bytes))
 
--- a need is behind another one: fewer bulletins were accepted, or on one of the circuits fewer were drawn
+-- how many bulletins came to a circuit: those that were drawn, and those that wait
+abbrev pub came_to : CircuitNeed → ℕ
+came_to c = c.draws + length c.waiting
+
+-- fewer were drawn on a circuit, or fewer came to it. Within one history neither falls.
+abbrev pub has_fewer : CircuitNeed → CircuitNeed → Bool
+has_fewer fed own = nat_lt fed.draws own.draws || nat_lt (came_to fed) (came_to own)
+
+-- a need is behind another one: fewer bulletins were accepted, or of one of the circuits fewer were drawn, or came to it
 abbrev pub is_behind : Need → Need → Bool
-is_behind fed own =
-    nat_lt fed.accepted own.accepted || list_any (λ pair. nat_lt pair.0.draws pair.1.draws) (zip fed.circuits own.circuits)
+is_behind fed own = nat_lt fed.accepted own.accepted || list_any (λ pair. has_fewer pair.0 pair.1) (zip fed.circuits own.circuits)
 
 -- a journal that begins so has a checkpoint that isn't behind what this state has come to
 abbrev pub is_further : Directory → State → Taken → Bool

@@ -43,10 +43,10 @@ pub(crate) fn add_all<P: Station, S: Source>(
     };
     let mut at = at;
     loop {
-        if let Err(end) = gathering.make_room(station, directory, ahead) {
+        if let Err(end) = gathering.make_ready(station, directory, source, ahead) {
             return end;
         }
-        match gathering.gather(alloc, directory, &mut core, source, ahead, at) {
+        match gathering.gather(alloc, directory, &mut core, ahead, at) {
             Ok(size) => at += size as u64,
             Err(end) => return gathering.finish(station, directory, end),
         }

@@ -8,7 +8,7 @@ use std::alloc::Global;
 use std::marker::Model;
 
 /// How many bytes are read at once.
-const PIECE: usize = 16384;
+const PIECE: usize = 65536;
 
 /// Bytes of a feed that were read and not taken yet, and whether the source has no more.
 #[derive(Drop)]
@@ -92,7 +92,7 @@ impl Ahead {
     }
 
     /// Reads one piece more.
-    fn read_on<S: Source>(&mut self, source: &mut S) -> Result<(), FollowEnd>
+    pub(crate) fn read_on<S: Source>(&mut self, source: &mut S) -> Result<(), FollowEnd>
         requires { self.old.is_all ≡ false }
         ensures kept { S.observed → (fed : List ℕ) → HasRead fed self.old (S.left source.old)
             → OnOk result (HasRead fed self.new (S.left source.new)) }
@@ -102,6 +102,7 @@ impl Ahead {
         ensures kind { IfErr result IsReadEnd }
         ensures cause { AsksFeed S.Source result source.old source.new }
     {
+        self.settle();
         let mut piece = [0u8; PIECE];
         let count = match source.read(&mut piece) {
             Ok(count) => count,
@@ -127,9 +128,6 @@ impl Ahead {
         ensures kind { IfErr result IsReadEnd }
         ensures cause { AsksFeed S.Source result source.old source.new }
     {
-        if self.len() < want && !self.is_all {
-            self.settle();
-        }
         while self.len() < want && !self.is_all {
             self.read_on(source)?;
         }

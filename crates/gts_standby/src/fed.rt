@@ -1,6 +1,6 @@
 //! The next record of a feed.
-ghost use Rattle.std.specs.Prelude.{◌≡◌, ◌≤◌, ℕ, List, true, false, nat_eq, codes, length, IfOk, IfErr};
-ghost use Rattle.gts_standby.specs.Cited.{AsksFeed, FindsPiece, HasRead, IsFedEnd, IsUnsealed, held, may_be_cut, may_begin, record_piece, starts_with};
+ghost use Rattle.std.specs.Prelude.{◌≡◌, ◌≤◌, ℕ, List, true, false, nat_eq, codes, length, IfOk, IfErr, OnOk};
+ghost use Rattle.gts_standby.specs.Cited.{AsksFeed, FindsPiece, HasRead, IsFedEnd, IsReadEnd, IsUnsealed, held, may_be_cut, may_begin, record_piece, starts_with, tells_next};
 
 use crate::FollowEnd;
 use crate::ahead::Ahead;
@@ -72,6 +72,40 @@ pub(crate) fn end_at(version: Version, ahead: &Ahead, at: u64) -> FollowEnd
     }
 }
 
+/// Whether the bytes that were read ahead tell the next record. It is there whole, with as many bytes as its seal has; or as many
+/// are there as the longest has; or there are no more.
+pub(crate) fn tells_next(version: Version, ahead: &Ahead) -> bool
+    ensures { result ≡ tells_next version ahead.now }
+{
+    if ahead.is_all() || ahead.len() >= LONGEST {
+        return true;
+    }
+    match decode(ahead.bytes()) {
+        Some((_, size)) => ahead.len() >= size + version.seal_size(),
+        None => false,
+    }
+}
+
+/// Reads on until the bytes that were read ahead tell the next record. Where they do already, nothing is read.
+pub(crate) fn read_next<S: Source>(
+    source: &mut S,
+    ahead: &mut Ahead,
+    version: Version,
+) -> Result<(), FollowEnd>
+    ensures kept { S.observed → (fed : List ℕ) → HasRead fed ahead.old (S.left source.old)
+        → OnOk result (HasRead fed ahead.new (S.left source.new)) }
+    ensures enough { OnOk result (tells_next version ahead.new ≡ true) }
+    ensures still { tells_next version ahead.old ≡ true
+        → (ahead.new ≡ ahead.old) × (source.new ≡ source.old) }
+    ensures kind { IfErr result IsReadEnd }
+    ensures cause { AsksFeed S.Source result source.old source.new }
+{
+    while !tells_next(version, ahead) {
+        ahead.read_on(source)?;
+    }
+    Ok(())
+}
+
 /// The size of the next record with its seal, and that seal, where another stands before it.
 pub(crate) fn fed_record<S: Source>(
     source: &mut S,
@@ -88,7 +122,7 @@ pub(crate) fn fed_record<S: Source>(
     ensures kind { IfErr result IsFedEnd }
     ensures cause { AsksFeed S.Source result source.old source.new }
 {
-    ahead.fill(source, LONGEST)?;
+    read_next(source, ahead, version)?;
     match decode_sealed(version, before, ahead.bytes()) {
         Some(found) => {
             let seal = found.2;

@@ -1,10 +1,10 @@
 //! Records of a feed are gathered behind a journal, and brought into it behind one gate.
-ghost use Rattle.std.specs.Prelude.{◌≡◌, ◌+◌, ◌<◌, length, IfOk, IfErr, OnOk, OnErr};
-ghost use Rattle.gts_standby.specs.Cited.{AsksDisk, AsksFeed, Brings, CanGather, GathersNext, HasDiskCounts, IsFedEnd, IsFinished, IsGathered, IsWhole, MOST_GATHERED, MayBring, MayHaveBrought, StaysWhole, held, no_records, said_by};
+ghost use Rattle.std.specs.Prelude.{◌≡◌, ◌≢◌, ◌+◌, ◌<◌, ℕ, List, true, length, IfOk, IfErr, OnOk, OnErr};
+ghost use Rattle.gts_standby.specs.Cited.{AsksBoth, AsksDisk, AsksFeed, Brings, CanGather, GathersNext, HasDiskCounts, HasRead, IsFedEnd, IsFinished, IsGathered, IsReadEnd, IsReadyEnd, IsSettled, IsWhole, MOST_GATHERED, MayBring, MayHaveBrought, StaysWhole, held, no_records, said_by, tells_next};
 
 use crate::FollowEnd;
 use crate::ahead::Ahead;
-use crate::fed::{LONGEST, end_at};
+use crate::fed::{LONGEST, end_at, read_next, tells_next};
 use gts_core::Core;
 use gts_directory::Directory;
 use gts_journal::{Batch, Journal};
@@ -38,28 +38,27 @@ impl Gathering {
         })
     }
 
-    /// Gathers the record of a feed that stands next, at a place, and answers its size there. There is room for the longest one.
-    pub(crate) fn gather<S: Source>(
+    /// Gathers the record of a feed that stands next, at a place, and answers its size there. What was read ahead tells it, and
+    /// there is room for the longest one. Nothing is read.
+    pub(crate) fn gather(
         &mut self,
         alloc: Global,
         directory: &Directory,
         core: &mut Core,
-        source: &mut S,
         ahead: &mut Ahead,
         at: u64,
     ) -> Result<usize, FollowEnd>
         requires going { CanGather directory.now core.old self.old }
         requires room { length self.old.batch.text + LONGEST < MOST_GATHERED }
-        ensures gathered { GathersNext result S.observed directory.now core.old self.old at
-            ahead.old
-            (S.left source.old) core.new self.new ahead.new (S.left source.new) }
+        requires enough { tells_next self.old.journal.version ahead.old ≡ true }
+        ensures gathered { GathersNext result directory.now core.old self.old at ahead.old
+            core.new self.new ahead.new }
         ensures unchanged { OnErr result (self.new ≡ self.old) }
         ensures kind { IfErr result IsFedEnd }
-        ensures cause { AsksFeed S.Source result source.old source.new }
-        ensures whole { S.observed → IsWhole ahead.old (S.left source.old)
-            → StaysWhole result ahead.new (S.left source.new) }
+        ensures unread { IfErr result (λ end. end ≢ FollowEnd.SourceFault) }
+        ensures whole { (left : List ℕ) → IsWhole ahead.old left
+            → StaysWhole result ahead.new left }
     {
-        ahead.fill(source, LONGEST)?;
         // A limit is low enough for the places of gates.
         directory.bounds_hold();
         let version = self.journal.version();
@@ -110,31 +109,55 @@ impl Gathering {
         }
     }
 
-    /// Sees that another record may be gathered. Where there is no room for the longest one, or the feed is read on before, which may
-    /// take its time, what was gathered is brought into the journal.
-    pub(crate) fn make_room<P: Station>(
+    /// Reads on in a feed until what was read ahead tells the next record. That may wait for bytes, and perhaps for long: so all
+    /// that was taken has to stand in the journal.
+    fn read_on<S: Source>(&self, source: &mut S, ahead: &mut Ahead) -> Result<(), FollowEnd>
+        requires settled { IsSettled self.now }
+        ensures kept { S.observed → (fed : List ℕ) → HasRead fed ahead.old (S.left source.old)
+            → OnOk result (HasRead fed ahead.new (S.left source.new)) }
+        ensures enough { OnOk result (tells_next self.now.journal.version ahead.new ≡ true) }
+        ensures still { tells_next self.now.journal.version ahead.old ≡ true
+            → (ahead.new ≡ ahead.old) × (source.new ≡ source.old) }
+        ensures kind { IfErr result IsReadEnd }
+        ensures cause { AsksFeed S.Source result source.old source.new }
+    {
+        read_next(source, ahead, self.journal.version())
+    }
+
+    /// Sees that another record may be gathered. Where there is no room for the longest one, or what was read ahead is used up, what
+    /// was gathered is brought into the journal. Then the feed is read on, where it has to be.
+    pub(crate) fn make_ready<P: Station, S: Source>(
         &mut self,
         station: &mut P,
         directory: &Directory,
-        ahead: &Ahead,
+        source: &mut S,
+        ahead: &mut Ahead,
     ) -> Result<(), FollowEnd>
         requires { IsGathered P.observed directory.now (P.calls station.old) self.old }
         ensures brought { OnOk result (MayHaveBrought P.observed directory.now (P.calls station.old)
             self.old (P.calls station.new) self.new) }
         ensures room { OnOk result (length self.new.batch.text + LONGEST < MOST_GATHERED) }
+        ensures enough { OnOk result (tells_next self.new.journal.version ahead.new ≡ true) }
+
+        // Nothing is read where the next record is there whole: it is gathered first.
+        ensures still { tells_next self.old.journal.version ahead.old ≡ true
+            → (ahead.new ≡ ahead.old) × (source.new ≡ source.old) }
+        ensures kept { S.observed → (fed : List ℕ) → HasRead fed ahead.old (S.left source.old)
+            → OnOk result (HasRead fed ahead.new (S.left source.new)) }
         ensures moments { P.observed → MayBring P.observed directory.now
             (P.calls station.old) self.old
             (P.calls station.new) }
         ensures silent { P.observed → said_by (P.calls station.new) ≡ said_by
             (P.calls station.old) }
-        ensures kind { IfErr result (λ end. end ≡ FollowEnd.DiskFault) }
-        ensures cause { AsksDisk P.Station result station.old station.new }
+        ensures kind { IfErr result IsReadyEnd }
+        ensures cause { AsksBoth P.Station S.Source result station.old station.new
+            source.old source.new }
     {
-        let is_there = ahead.is_all() || ahead.len() >= LONGEST;
-        if self.batch.room() > LONGEST && is_there {
+        if self.batch.room() > LONGEST && tells_next(self.journal.version(), ahead) {
             return Ok(());
         }
-        self.bring(station, directory)
+        self.bring(station, directory)?;
+        self.read_on(source, ahead)
     }
 
     /// Ends with a feed, which ends so: what was gathered is brought into the journal.

@@ -1,6 +1,6 @@
 //! Laws over the definitions, each the contract of a function with an empty body.
 ghost use Rattle.std.specs.Prelude.{◌≡◌, ◌++◌, ◌<◌, ◌^◌, ℕ, List, length, Ok, Some};
-ghost use Rattle.gts_standby.specs.Cited.{AddsFront, Directory, FeedBrings, Files, HasFront, HasNoRecord, HasPlainPart, IsFeedOf, IsFoundBehind, IsOvertaken, IsPlainFeed, LeadsTo, State, Taken, Version, comes_to, found_since, held, nothing_read, state_of};
+ghost use Rattle.gts_standby.specs.Cited.{AddsFront, Directory, FeedBrings, Files, HasFront, HasNoRecord, HasPart, IsFeedOf, IsFoundBehind, IsOvertaken, IsPlainFeed, LeadsTo, State, Taken, Version, comes_to, found_since, held, nothing_read, state_of};
 
 /// A feed that is cut anywhere adds nothing, or a first part of what the whole feed adds: a journal begins with the same
 /// checkpoint, or with none, and has the first of the same records.
@@ -26,11 +26,13 @@ pub fn a_whole_feed_brings_a_new_standby_to_the_station()
         → IsFeedOf d files read fed → FeedBrings d own fed (nothing_read d) read }
 {}
 
-/// So it brings a standby that has a first part of the station's records, where neither journal has a checkpoint.
+/// So it brings a standby that has a first part of the station's records, with a checkpoint first or without one: one whose own feed
+/// is a front of the station's.
 pub fn a_whole_feed_brings_a_standby_that_has_a_part()
     ensures { (d : Directory) (own files : Files) (from read : State × ℕ × List ℕ)
-        (fed more : List ℕ) → length d.mark ≡ 32 → HasPlainPart d own files from fed
-        → IsFeedOf d files read (fed ++ more) → FeedBrings d own (fed ++ more) from read }
+        (fed more : List ℕ) → length d.mark ≡ 32 → d.limit < 256 ^ 4
+        → HasPart d own from fed → IsFeedOf d files read (fed ++ more)
+        → FeedBrings d own (fed ++ more) from read }
 {}
 
 /// The whole feed of a station that was compacted brings a standby with another record 0 there too, where the checkpoint isn't

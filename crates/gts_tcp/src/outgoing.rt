@@ -2,11 +2,13 @@ ghost use Rattle.std.specs.Prelude.{◌≡◌, ◌≤◌, [], length, IfOk};
 
 use crate::cause::{named, note};
 use crate::dialing::{LONGEST_TRY, dial_once};
+use crate::handed::{Handed, LastMinute};
 use crate::incoming::not_connected;
 use crate::lines::is_closed;
 use crate::pausing::Pauses;
+use crate::socket::bound;
 use crate::stop::{LONGEST_WAIT, Patience, goes_on, has_waited};
-use crate::telling::{A_MINUTE, AN_HOUR, News, Teller};
+use crate::telling::{A_MINUTE, AN_HOUR, BETWEEN_BREAKS, News, Teller};
 use crate::{LineCall, LineCause, Stop};
 use gts_traits::{Failed, Place, Sink, counted};
 use std::io;
@@ -50,6 +52,14 @@ struct Way<'a, R: Net<Listener = TcpListener, Stream = TcpStream> + Clock + Epri
     /// When something was last written.
     written: Option<Instant>,
     teller: Teller,
+    /// The moment from which its seconds are counted.
+    begun: Option<Instant>,
+    /// What was handed to the connection that stands.
+    minute: LastMinute,
+    /// Why the last connection broke, and what was handed to those that did, where it wasn't told yet.
+    untold: Option<(io::Error, Handed)>,
+    /// Tells of connections that broke.
+    breaks: Teller,
 }
 
 impl<R: Net<Listener = TcpListener, Stream = TcpStream> + Clock + Eprint> Way<'_, R> {
@@ -62,6 +72,7 @@ impl<R: Net<Listener = TcpListener, Stream = TcpStream> + Clock + Eprint> Way<'_
         goes_on(self.patience.stop)?;
         let stream = dial_once(self.rt, self.place.host, self.place.output, milliseconds)?;
         stream.set_nodelay(true)?;
+        bound(&stream, self.place.idle)?;
         stream.set_write_timeout(Some(Duration::from_millis(u64::from(LONGEST_WAIT))))?;
         // A look before each frame then costs one call.
         stream.set_nonblocking(true)?;
@@ -118,10 +129,63 @@ impl<R: Net<Listener = TcpListener, Stream = TcpStream> + Clock + Eprint> Way<'_
     /// Gives up a connection that the neighbour has ended.
     fn look(&mut self) {
         if let Some(stream) = &mut self.stream
-            && reads_an_end(stream)
+            && let Some(why) = end_of(stream)
         {
-            self.stream = None;
+            self.give_up(why);
         }
+    }
+
+    /// The present second, counted from the first one; where there is no clock, that of the last frame.
+    fn second(&self) -> u64 {
+        match self.begun.map(|begun| begun.elapsed(self.rt)) {
+            Some(Ok(since)) => since.as_secs(),
+            _ => self.minute.newest(),
+        }
+    }
+
+    /// Gives up the connection that stands, which ended or broke. What was handed to it may be missing at the neighbour, which a service
+    /// tells. A run that ends breaks it itself.
+    fn give_up(&mut self, why: io::Error) {
+        let stood = self.stream.take().is_some();
+        if !stood || goes_on(self.patience.stop).is_err() {
+            return;
+        }
+        if self.patience.tries.is_none()
+            && let Some(handed) = self.minute.handed()
+        {
+            let handed = match self.untold {
+                Some((_, before)) => before.joined(handed),
+                None => handed,
+            };
+            self.untold = Some((why, handed));
+        }
+        self.minute = LastMinute::new();
+        self.tell_broken(BETWEEN_BREAKS);
+    }
+
+    /// Tells the operator what was handed to connections that broke, where no other break was told within so many seconds.
+    fn tell_broken(&mut self, seconds: u64) {
+        if let Some((why, handed)) = self.untold
+            && self.breaks.may_tell(self.rt, seconds)
+        {
+            self.untold = None;
+            let port = self.place.output;
+            let ago = self.second().saturating_sub(handed.until());
+            let news = News::Broke {
+                port,
+                why,
+                handed,
+                ago,
+            };
+            self.breaks.tell(self.rt, seconds, news);
+        }
+    }
+
+    /// A frame was handed to the connection that stands.
+    fn has_handed(&mut self, frame: &[u8]) {
+        let at = self.second();
+        self.minute.note(frame, at);
+        self.tell_reached();
     }
 
     /// Tells the operator why the neighbour can't be reached, when that begins and each hour, where a service goes on. A run tells of
@@ -151,17 +215,19 @@ impl<R: Net<Listener = TcpListener, Stream = TcpStream> + Clock + Eprint> Way<'_
     /// or without an end, and each connection that comes of it begins with the first byte of the piece. The answer is the last
     /// failure where none of them takes all of it, or the run is to end.
     fn deliver(&mut self, piece: &[u8]) -> Result<(), LineCause> {
+        self.tell_broken(BETWEEN_BREAKS);
         self.look();
         let first = named(self.write_whole(piece), LineCall::Write, self.place.output);
         let Err(mut last) = first else {
-            self.tell_reached();
+            self.has_handed(piece);
             return Ok(());
         };
+        self.give_up(last.error);
         let mut pauses = Pauses::new();
         for _ in 0..self.patience.tries.map_or(u64::MAX, u64::from) {
             match self.write_anew(piece) {
                 Ok(()) => {
-                    self.tell_reached();
+                    self.has_handed(piece);
                     return Ok(());
                 }
                 Err(cause) => last = cause,
@@ -203,6 +269,14 @@ impl<R: Net<Listener = TcpListener, Stream = TcpStream> + Clock + Eprint> Way<'_
         }
     }
 
+    /// When the sink wants to be asked again where no connection stands: in a second while a break wasn't told yet, else never.
+    fn asked_again(&self) -> Option<u32> {
+        match self.untold {
+            Some(_) => Some(A_SECOND),
+            None => None,
+        }
+    }
+
     /// Nothing is due, and on a closed circuit nothing ever is. Where no connection has stood yet, the port is tried once. On one that
     /// stands, what the neighbour sends is read away once a second, and where nothing was written for a third of the circuit's `idle`
     /// seconds, a keep-alive is; a connection that has ended, or doesn't take it, is given up.
@@ -213,9 +287,10 @@ impl<R: Net<Listener = TcpListener, Stream = TcpStream> + Clock + Eprint> Way<'_
         if !self.has_stood && !self.tries_once() {
             return Some(self.pauses.next());
         }
+        self.tell_broken(BETWEEN_BREAKS);
         self.look();
         if self.stream.is_none() {
-            return None;
+            return self.asked_again();
         }
         let Some(idle) = self.place.idle else {
             return Some(A_SECOND);
@@ -225,9 +300,9 @@ impl<R: Net<Listener = TcpListener, Stream = TcpStream> + Clock + Eprint> Way<'_
         if quiet < third {
             return Some((third - quiet).min(A_SECOND));
         }
-        if self.write_whole(KEEP_ALIVE).is_err() {
-            self.stream = None;
-            return None;
+        if let Err(why) = self.write_whole(KEEP_ALIVE) {
+            self.give_up(why);
+            return self.asked_again();
         }
         Some(third.min(A_SECOND))
     }
@@ -235,6 +310,7 @@ impl<R: Net<Listener = TcpListener, Stream = TcpStream> + Clock + Eprint> Way<'_
     /// Ends the bytes of the connection that stands, and waits until the neighbour has read them and ends its side. Where none has stood,
     /// the port is tried once more, so that a neighbour that listens hears the end.
     fn end(&mut self) {
+        self.tell_broken(0);
         if !self.has_stood {
             // Where the neighbour isn't there, there is nobody to tell.
             let _ = self.connect(SHORT_TRY);
@@ -299,7 +375,7 @@ fn write_some(stream: &mut TcpStream, piece: &[u8]) -> io::Result<usize>
 }
 
 /// Writes a piece on a connection. Where a write takes a part, the next goes on behind it. Answers what was not taken: nothing, but
-/// where for a minute no byte was.
+/// where the writes of a minute have waited in turn and no byte was.
 fn write_on<'a>(
     stream: &mut TcpStream,
     piece: &'a [u8],
@@ -320,8 +396,8 @@ fn write_on<'a>(
             }
             // A neighbour that answers at length reads no further until its answers are read.
             Err(error) if has_waited(&error) => {
-                if reads_an_end(stream) {
-                    return Err(not_connected());
+                if let Some(why) = end_of(stream) {
+                    return Err(why);
                 }
                 waits = waits.saturating_add(1);
             }
@@ -341,18 +417,19 @@ fn milliseconds_of(time: Duration) -> u32 {
     u32::try_from(time.as_millis()).unwrap_or(u32::MAX)
 }
 
-/// Whether the neighbour has ended a connection, which doesn't wait, or it broke. What the neighbour sends on it is read away, and is
-/// no end.
-fn reads_an_end(stream: &mut TcpStream) -> bool {
+/// Why a connection, which doesn't wait, has come to its end: the neighbour has ended it, or it broke. What the neighbour sends on it is
+/// read away, and is no end.
+fn end_of(stream: &mut TcpStream) -> Option<io::Error> {
     let mut piece = [0u8; BYTES_A_LOOK];
     for _ in 0..MOST_LOOKS {
         match stream.read(&mut piece) {
-            Ok(0) => return true,
+            Ok(0) => return Some(io::Error::from(ErrorKind::ConnectionAborted)),
             Ok(_) => {}
-            Err(error) => return !has_waited(&error),
+            Err(error) if has_waited(&error) => return None,
+            Err(error) => return Some(error),
         }
     }
-    false
+    None
 }
 
 /// The connections that a circuit's bytes go out on, one after another. They tell no bytes. Each piece is taken whole, and
@@ -380,6 +457,10 @@ impl<'a, R: Net<Listener = TcpListener, Stream = TcpStream> + Clock + Eprint> Tc
             pauses: Pauses::new(),
             written: None,
             teller: Teller::new(circuit),
+            begun: Instant::now(rt).ok(),
+            minute: LastMinute::new(),
+            untold: None,
+            breaks: Teller::new(circuit),
         };
         // Where the neighbour isn't there yet, it is tried again later.
         let _ = way.connect(SHORT_TRY);

@@ -1,7 +1,8 @@
 use crate::LineCause;
-use std::fmt;
+use crate::handed::Handed;
 use std::net::IpAddr;
 use std::time::{Clock, Instant};
+use std::{fmt, io};
 
 /// For how many seconds a circuit tells of no further caller that it turns away, once it has told of one, and of no further failure
 /// of a line; and for how many a neighbour may take at most to end its side of a connection.
@@ -9,6 +10,9 @@ pub(crate) const A_MINUTE: u64 = 60;
 
 /// For how many seconds a circuit doesn't tell again of a neighbour that isn't there.
 pub(crate) const AN_HOUR: u64 = 3_600;
+
+/// For how many seconds a circuit doesn't tell of a further connection that broke. What it has to tell of that comes then, together.
+pub(crate) const BETWEEN_BREAKS: u64 = 10;
 
 /// What an operator is told of a circuit's lines while a service goes on.
 #[derive(Clone, Copy)]
@@ -28,6 +32,17 @@ pub(crate) enum News {
         /// Its port.
         port: u16,
     },
+    /// A connection on which frames went out has ended or broke.
+    Broke {
+        /// The neighbour's port.
+        port: u16,
+        /// Why.
+        why: io::Error,
+        /// What was handed to it in the minute up to its last frame, which may be missing there.
+        handed: Handed,
+        /// How many seconds ago that was.
+        ago: u64,
+    },
 }
 
 impl fmt::Display for News {
@@ -36,6 +51,15 @@ impl fmt::Display for News {
             News::TurnedAway { caller } => write!(f, "turned away {caller}"),
             News::Failed { cause } => write!(f, "{cause}"),
             News::Reached { port } => write!(f, "output {port}: connected"),
+            News::Broke {
+                port,
+                why,
+                handed,
+                ago,
+            } => write!(
+                f,
+                "output {port}: broke: {why}; may be missing of the minute up to {ago} s ago: {handed}"
+            ),
         }
     }
 }
@@ -57,12 +81,17 @@ impl Teller {
         }
     }
 
+    /// Whether nothing was told within the last so many seconds.
+    pub(crate) fn may_tell<R: Clock>(&self, rt: &R, seconds: u64) -> bool {
+        match self.told.map(|told| told.elapsed(rt)) {
+            Some(Ok(since)) => since.as_secs() >= seconds,
+            _ => true,
+        }
+    }
+
     /// Tells this on standard error, unless something was told within the last so many seconds.
     pub(crate) fn tell<R: Clock + Eprint>(&mut self, rt: &R, seconds: u64, news: News) {
-        if let Some(told) = self.told
-            && let Ok(since) = told.elapsed(rt)
-            && since.as_secs() < seconds
-        {
+        if !self.may_tell(rt, seconds) {
             return;
         }
         self.told = Instant::now(rt).ok();

@@ -1,5 +1,5 @@
 -- The count of a command is within its limits.
-use Rattle.gts_words.proofs.Cited.{◌≡◌, ℕ, ◌≤◌, ◌/◌, ◌%◌, Bool, true, false, ◌&&◌, List, [], ◌∷◌, Option, Some, None, length, nat_le, cond, codes, refl, subst, arith, option_map, ◌==◌, Command, Compact, Count, Follow, Gaps, Generate, Init, LONGEST_CONNECTIONS, LONGEST_COUNT, MOST_CONNECTIONS, MOST_GENERATED, Migrate, MigrateCheck, MigrateDrop, Pack, Replay, Serve, ServeAlways, Ship, ShipSince, Show, Unpack, alone, circuit_in, command_of, count_in, digits_value, gaps_of, is_ascii_digit, is_count, is_moment, list_all, migrating, moment_in, number_in, same, seal_in, serving, ship_behind, used_in, leb-true, and_parts}
+use Rattle.gts_words.proofs.Cited.{◌≡◌, ℕ, ◌≤◌, ◌/◌, ◌%◌, Bool, true, false, ◌&&◌, List, [], ◌∷◌, Option, Some, None, length, nat_le, cond, codes, refl, subst, arith, option_map, ◌==◌, Check, CheckFrom, CheckHeading, Command, Compact, Count, Follow, Gaps, Generate, Init, LONGEST_CONNECTIONS, LONGEST_COUNT, MOST_CONNECTIONS, MOST_GENERATED, Migrate, MigrateCheck, MigrateDrop, Pack, Replay, Serve, ServeAlways, Ship, ShipSince, Show, Unpack, alone, check_from, checking, circuit_in, command_of, count_in, digits_value, front_in, gaps_of, is_ascii_digit, is_count, is_moment, list_all, migrating, moment_in, number_in, same, seal_in, serving, ship_behind, used_in, leb-true, and_parts}
 
 -- a command has no count, or one within the limits
 abbrev IsWithin : Command → Type 0
@@ -27,7 +27,8 @@ alone_within name =
     (either (same name (codes "pack")) (Some Pack) _ tt
     (either (same name (codes "ship")) (Some Ship) _ tt
     (either (same name (codes "follow")) (Some Follow) _ tt
-    (either (same name (codes "count")) (Some Count) None tt tt)))))))))
+    (either (same name (codes "count")) (Some Count) _ tt
+    (either (same name (codes "check")) (Some Check) None tt tt))))))))))
 
 -- a word that spells a count
 spelled : (longest top : ℕ) (w : List ℕ) → is_count longest top w ≡ true → (1 ≤ digits_value 10 w) × (digits_value 10 w ≤ top)
@@ -77,15 +78,29 @@ by_migrating true check = tt
 by_migrating false true = tt
 by_migrating false false = tt
 
-by_name : (w : List ℕ) (a b c e f : Bool) → AllWithin (cond a (option_map (λ n. Generate n) (count_in LONGEST_COUNT MOST_GENERATED w))
+by_checking : (found : Option (List ℕ)) → AllWithin (option_map (λ heading. CheckHeading heading) found)
+by_checking None = tt
+by_checking (Some heading) = tt
+
+from_within : (heading : Option (List ℕ)) (from : Option ℕ) → AllWithin (check_from heading from)
+from_within None from = tt
+from_within (Some heading) None = tt
+from_within (Some heading) (Some from) = tt
+
+by_route : (b : Bool) (heading : Option (List ℕ)) (from : Option ℕ) → AllWithin (cond b (check_from heading from) None)
+by_route true heading from = from_within heading from
+by_route false heading from = tt
+
+by_name : (w : List ℕ) (a b c e f g : Bool) → AllWithin (cond a (option_map (λ n. Generate n) (count_in LONGEST_COUNT MOST_GENERATED w))
     (cond b (serving w)
-    (cond c (option_map (λ c. Unpack c) (circuit_in w)) (cond e (moment_in w) (cond f (migrating w) None)))))
-by_name w true b c e f = by_count w (is_count LONGEST_COUNT MOST_GENERATED w) refl
-by_name w false true c e f = by_serving w (same w (codes "always"))
-by_name w false false true e f = no_count (circuit_in w)
-by_name w false false false true f = in_moment w (length w == 6)
-by_name w false false false false true = by_migrating (same w (codes "drop")) (same w (codes "check"))
-by_name w false false false false false = tt
+    (cond c (option_map (λ c. Unpack c) (circuit_in w)) (cond e (moment_in w) (cond f (migrating w) (cond g (checking w) None))))))
+by_name w true b c e f g = by_count w (is_count LONGEST_COUNT MOST_GENERATED w) refl
+by_name w false true c e f g = by_serving w (same w (codes "always"))
+by_name w false false true e f g = no_count (circuit_in w)
+by_name w false false false true f g = in_moment w (length w == 6)
+by_name w false false false false true g = by_migrating (same w (codes "drop")) (same w (codes "check"))
+by_name w false false false false false true = by_checking (front_in w)
+by_name w false false false false false false = tt
 
 behind_within : (used : Option ℕ) (seal : Option (List ℕ)) → AllWithin (ship_behind used seal)
 behind_within None seal = tt
@@ -100,7 +115,8 @@ command_within : (words : List (List ℕ)) → AllWithin (command_of words)
 command_within (name ∷ []) = alone_within name
 command_within (name ∷ count ∷ []) =
     by_name count (same name (codes "generate")) (same name (codes "serve")) (same name (codes "unpack")) (same name (codes "gaps"))
-    (same name (codes "migrate"))
+    (same name (codes "migrate")) (same name (codes "check"))
+command_within (name ∷ heading ∷ from ∷ []) = by_route (same name (codes "check")) (front_in heading) (circuit_in from)
 command_within (name ∷ since ∷ used ∷ seal ∷ []) =
     by_since (same name (codes "ship") && same since (codes "since")) (used_in used) (seal_in seal)
 command_within _ = tt

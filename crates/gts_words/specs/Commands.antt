@@ -3,7 +3,7 @@ use Rattle.std.specs.Prelude.{◌≡◌, ℕ, Bool, false, ◌&&◌, ◌==◌, n
 use Rattle.gts_words.specs.Cited.Below.{FromHexError, decode_sized, digits_value, encode_lower, is_ascii_digit, list_all, pointwise}
 use Rattle.gts_words.specs.declared.count.TheConstants.{MOST_GENERATED, LONGEST_COUNT, MOST_CONNECTIONS, LONGEST_CONNECTIONS, LONGEST_USED}
 use Rattle.gts_words.specs.declared.command.Command.{Command}
-use Rattle.gts_words.specs.declared.command.Command.TheVariants.{Init, Replay, Serve, ServeAlways, Show, Compact, Generate, Migrate, MigrateDrop, MigrateCheck, Unpack, Pack, Gaps, Ship, ShipSince, Follow, Count}
+use Rattle.gts_words.specs.declared.command.Command.TheVariants.{Init, Replay, Serve, ServeAlways, Show, Compact, Generate, Migrate, MigrateDrop, MigrateCheck, Unpack, Pack, Gaps, Ship, ShipSince, Follow, Count, Check, CheckHeading, CheckFrom}
 use Rattle.gts_words.specs.declared.command.WordsFault.{WordsFault}
 use Rattle.gts_words.specs.declared.command.WordsFault.TheVariants as fault
 
@@ -29,7 +29,8 @@ alone name =
     else (if same name (codes "ship") then Some Ship
     else (if same name (codes "follow") then Some Follow
     else (if same name (codes "count") then Some Count
-    else None)))))))))
+    else (if same name (codes "check") then Some Check
+    else None))))))))))
 
 -- a count is spelled by one to so many digits, and its value is 1 to this one
 abbrev pub is_count : (longest most : ℕ) → List ℕ → Bool
@@ -79,6 +80,24 @@ migrating word =
     else (if same word (codes "check") then Some MigrateCheck
     else None)
 
+-- the front of a heading is spelled by eleven bytes, the first no hyphen
+abbrev pub front_in : List ℕ → Option (List ℕ)
+front_in word = if is_option word then None else (if length word == 11 then Some word else None)
+
+-- the command about a bulletin whose heading begins so
+abbrev pub checking : List ℕ → Option Command
+checking word = option_map (λ heading. CheckHeading heading) (front_in word)
+
+-- the same, come in on a circuit
+abbrev pub check_from : Option (List ℕ) → Option ℕ → Option Command
+check_from (Some heading) (Some from) = Some (CheckFrom heading from)
+check_from (Some heading) None = None
+check_from None _ = None
+
+-- the command that three words are
+abbrev pub routed : List ℕ → List ℕ → List ℕ → Option Command
+routed name heading from = if same name (codes "check") then check_from (front_in heading) (circuit_in from) else None
+
 -- The command that a word and another one are: messages are counted by one to six digits, up to 100,000; connections by one to
 -- four, up to 1,000.
 abbrev pub counted : List ℕ → List ℕ → Option Command
@@ -88,7 +107,8 @@ counted name word =
     else (if same name (codes "unpack") then option_map (λ c. Unpack c) (circuit_in word)
     else (if same name (codes "gaps") then moment_in word
     else (if same name (codes "migrate") then migrating word
-    else None))))
+    else (if same name (codes "check") then checking word
+    else None)))))
 
 -- a count of bytes is spelled by one to ten digits
 abbrev pub is_used : List ℕ → Bool
@@ -125,6 +145,7 @@ shipped name since used seal =
 abbrev pub command_of : List (List ℕ) → Option Command
 command_of (name ∷ []) = alone name
 command_of (name ∷ count ∷ []) = counted name count
+command_of (name ∷ heading ∷ from ∷ []) = routed name heading from
 command_of (name ∷ since ∷ used ∷ seal ∷ []) = shipped name since used seal
 command_of _ = None
 

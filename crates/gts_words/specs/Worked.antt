@@ -1,6 +1,6 @@
 -- Worked rows: lists of words, and what they are.
 use Rattle.std.specs.Prelude.{◌≡◌, [], ◌∷◌, None, Some, codes}
-use Rattle.gts_words.specs.declared.command.Command.TheVariants.{Init, Replay, Serve, ServeAlways, Show, Compact, Generate, Migrate, MigrateDrop, MigrateCheck, Unpack, Pack, Gaps, Ship, ShipSince, Follow, Count}
+use Rattle.gts_words.specs.declared.command.Command.TheVariants.{Init, Replay, Serve, ServeAlways, Show, Compact, Generate, Migrate, MigrateDrop, MigrateCheck, Unpack, Pack, Gaps, Ship, ShipSince, Follow, Count, Check, CheckHeading, CheckFrom}
 use Rattle.gts_words.specs.Commands.{command_of}
 
 -- Each command of one word.
@@ -15,6 +15,7 @@ OneWord = (command_of (codes "init" ∷ []) ≡ Some Init)
     × (command_of (codes "ship" ∷ []) ≡ Some Ship)
     × (command_of (codes "follow" ∷ []) ≡ Some Follow)
     × (command_of (codes "count" ∷ []) ≡ Some Count)
+    × (command_of (codes "check" ∷ []) ≡ Some Check)
 
 -- A count has one to six digits and a value from 1 to 100,000.
 abbrev pub Counts : Type 0
@@ -62,6 +63,15 @@ MigrateWords = (command_of (codes "migrate" ∷ codes "drop" ∷ []) ≡ Some Mi
     × (command_of (codes "migrate" ∷ codes "dropped" ∷ []) ≡ None)
     × (command_of (codes "migrate" ∷ codes "drop" ∷ codes "check" ∷ []) ≡ None)
     × (command_of (codes "drop" ∷ []) ≡ None)
+
+-- `check` has the front of a heading behind it, and a circuit behind that, or nothing.
+abbrev pub CheckWords : Type 0
+CheckWords = (command_of (codes "check" ∷ codes "SMVG01 TVSV" ∷ []) ≡ Some (CheckHeading (codes "SMVG01 TVSV")))
+    × (command_of (codes "check" ∷ codes "SMVG01 TVSV" ∷ codes "01" ∷ []) ≡ Some (CheckFrom (codes "SMVG01 TVSV") 1))
+    × (command_of (codes "check" ∷ codes "SMVG01" ∷ []) ≡ None)
+    × (command_of (codes "check" ∷ codes "-MVG01 TVSV" ∷ []) ≡ None)
+    × (command_of (codes "check" ∷ codes "SMVG01 TVSV" ∷ codes "1" ∷ []) ≡ None)
+    × (command_of (codes "show" ∷ codes "SMVG01 TVSV" ∷ codes "01" ∷ []) ≡ None)
 
 -- What a standby has is a count of bytes of one to ten digits, and a seal of 64 hexadecimal digits in lower case.
 abbrev pub SinceWords : Type 0

@@ -41,6 +41,12 @@ pub enum Command {
     Follow,
     /// To work through a capture, and to say a table of the traffic behind it.
     Count,
+    /// To say what is odd of the directory.
+    Check,
+    /// To say where a bulletin would go whose heading begins so.
+    CheckHeading { heading: [u8; 11] },
+    /// To say where it would go if it came in on this circuit.
+    CheckFrom { heading: [u8; 11], from: u32 },
 }
 
 /// Why words are no command.

@@ -10,6 +10,7 @@ mod count;
 mod digits;
 mod laws;
 mod reading;
+mod route;
 mod since;
 mod telling;
 mod worked;
@@ -24,7 +25,7 @@ pub use laws::a_count_is_within_its_limits;
 pub use reading::read_words;
 pub use telling::{KIT, VERSION};
 pub use worked::{
-    circuits_and_times_of_digits, commands_of_one_word, connections_of_one_to_four_digits,
-    counts_of_one_to_six_digits, migrate_has_one_word_more_or_none, other_lists_are_no_command,
-    what_a_standby_has,
+    check_has_a_heading_and_a_circuit_or_less, circuits_and_times_of_digits, commands_of_one_word,
+    connections_of_one_to_four_digits, counts_of_one_to_six_digits,
+    migrate_has_one_word_more_or_none, other_lists_are_no_command, what_a_standby_has,
 };

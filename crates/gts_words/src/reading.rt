@@ -6,6 +6,7 @@ use crate::count::{
     LONGEST_CONNECTIONS, LONGEST_COUNT, MOST_CONNECTIONS, MOST_GENERATED, count_in,
 };
 use crate::digits::{circuit_in, moment_in};
+use crate::route::{checking, route_in};
 use crate::since::since_in;
 use crate::{Command, WordsFault};
 use clap::error::ErrorKind;
@@ -16,8 +17,11 @@ use std::alloc::{AllocError, Global};
 /// The word in front of those that are read: the program's name.
 const PROGRAM: &str = "gts_switch";
 
-/// The most words of a command but `ship since`.
+/// The most words of a command but `check` with a circuit, and `ship since`.
 const MOST_WORDS: u64 = 2;
+
+/// The words of a command that names a heading and a circuit.
+const ROUTE_WORDS: u64 = 3;
 
 /// The words of the one command that has more: what a standby station has of a journal.
 const SINCE_WORDS: u64 = 4;
@@ -42,7 +46,7 @@ fn fault_of(error: &clap::Error) -> WordsFault
 }
 
 /// Whether a word begins with a hyphen, as an option does.
-fn is_option(word: &str) -> bool
+pub(crate) fn is_option(word: &str) -> bool
     ensures { result ≡ commands.is_option word.now }
 {
     word.as_bytes().first() == Some(&b'-')
@@ -63,6 +67,7 @@ fn alone(name: &str) -> Option<Command>
         b"ship" => Some(Command::Ship),
         b"follow" => Some(Command::Follow),
         b"count" => Some(Command::Count),
+        b"check" => Some(Command::Check),
         _ => None,
     }
 }
@@ -102,6 +107,9 @@ fn counted(name: &str, word: &str) -> Option<Command>
     }
     if name == "migrate" {
         return migrating(word);
+    }
+    if name == "check" {
+        return checking(word);
     }
     None
 }
@@ -148,6 +156,17 @@ fn read_two(alloc: Global, name: &str, count: &str) -> Result<Command, WordsFaul
     }
 }
 
+/// Reads a command line of three words.
+fn read_route(words: &WordList) -> Result<Command, WordsFault>
+    requires { length words.now ≡ 3 }
+    ensures { result ≡ commands.or_words (commands.command_of words.now) }
+{
+    match route_in(words) {
+        Some(command) => Ok(command),
+        None => Err(WordsFault::Words),
+    }
+}
+
 /// Reads a command line of four words.
 fn read_since(words: &WordList) -> Result<Command, WordsFault>
     requires { length words.now ≡ 4 }
@@ -167,6 +186,9 @@ pub fn read_words(alloc: Global, words: &WordList) -> Result<Command, WordsFault
 {
     if words.len() == SINCE_WORDS {
         return read_since(words);
+    }
+    if words.len() == ROUTE_WORDS {
+        return read_route(words);
     }
     let Some(name) = words.get(0) else {
         return Err(WordsFault::Words);

@@ -27,6 +27,8 @@ usage: gts_switch COMMAND, in a folder with directory.toml
   ship since N SEAL  writes what comes behind N bytes that end with this seal
   follow             takes in what was shipped
   count              works through capture.gts, and tells the traffic
+  check              tells what is odd of directory.toml
+  check HEADING [cc] tells where such a bulletin goes, come in on circuit cc
   --version          this program's version
   --help             these lines
 The manual page gts_switch(1) has the rest.";

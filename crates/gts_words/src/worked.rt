@@ -2,7 +2,7 @@
 
 #![tactic(auto, unfolding(hex::proofs::OnLiterals::hex_on_literals))]
 
-ghost use Rattle.gts_words.specs.Worked.{OneWord, Counts, ConnectionCounts, DigitWords, MigrateWords, SinceWords, NoCommands};
+ghost use Rattle.gts_words.specs.Worked.{OneWord, Counts, ConnectionCounts, DigitWords, MigrateWords, CheckWords, SinceWords, NoCommands};
 
 /// Each command that is one word.
 pub fn commands_of_one_word()
@@ -27,6 +27,11 @@ pub fn circuits_and_times_of_digits()
 /// `migrate` has `drop` or `check` behind it, or nothing.
 pub fn migrate_has_one_word_more_or_none()
     ensures { MigrateWords }
+{}
+
+/// `check` has a heading's front and a circuit behind it, or less.
+pub fn check_has_a_heading_and_a_circuit_or_less()
+    ensures { CheckWords }
 {}
 
 /// `ship since` has a count of bytes and a seal.

@@ -61,7 +61,7 @@ pub use Rattle.gts_gap.specs.declared.fault.GapsEnd.{GapsEnd}
 pub use Rattle.gts_gap.specs.declared.moment.Moment.{Moment}
 pub use Rattle.gts_words.specs.Cited.{command_of}
 pub use Rattle.gts_words.specs.declared.command.Command.{Command}
-pub use Rattle.gts_words.specs.declared.command.Command.TheVariants.{Generate, Serve, Unpack}
+pub use Rattle.gts_words.specs.declared.command.Command.TheVariants.{CheckFrom, CheckHeading, Generate, Serve, Unpack}
 pub use Rattle.gts_receiver.specs.Cited.{fault_entries, goes_on}
 pub use Rattle.gts_receiver.specs.declared.end.ReceiveEnd.{ReceiveEnd}
 pub use Rattle.gts_receiver.specs.declared.limits.TheConstants.{WITHOUT_END}

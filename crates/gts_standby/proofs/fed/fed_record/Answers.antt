@@ -6,21 +6,21 @@ pub returns-in-Some-clause-piece : goal.returns-in-Some-clause-piece
 returns-in-Some-clause-piece g c = λ observed fed read.
     let v = c.args.version in
     let before = held v c.args.before.now in
-    let now = c.in_ok-fill.ensures.kept observed fed read in
-    let found : sealed_at v before c.fill.new.self.bytes ≡ Some (record_of c.in-Some.found.0) = ap (sealed_at v before) (sym c.bytes.ensures) ∙ sym c.in-Some.ensures.found in
-    (found_piece v before fed (g.S.Source.left c.fill.new.source) c.fill.new.self (record_of c.in-Some.found.0) c.in-Some.found.1 (held v c.in-Some.found.2) now found c.in-Some.ensures.size c.in-Some.ensures.seal, now)
+    let now = c.in_ok-read_next.ensures.kept observed fed read in
+    let found : sealed_at v before c.read_next.new.ahead.bytes ≡ Some (record_of c.in-Some.found.0) = ap (sealed_at v before) (sym c.bytes.ensures) ∙ sym c.in-Some.ensures.found in
+    (found_piece v before fed (g.S.Source.left c.read_next.new.source) c.read_next.new.ahead (record_of c.in-Some.found.0) c.in-Some.found.1 (held v c.in-Some.found.2) now found c.in-Some.ensures.size c.in-Some.ensures.seal, now)
 
 pub returns-in-Some-clause-there : goal.returns-in-Some-clause-there
 returns-in-Some-clause-there g c =
     let v = c.args.version in
     let before = held v c.args.before.now in
-    let found : sealed_at v before c.fill.new.self.bytes ≡ Some (record_of c.in-Some.found.0) = ap (sealed_at v before) (sym c.bytes.ensures) ∙ sym c.in-Some.ensures.found in
-    found_fits_there v before c.fill.new.self.bytes (record_of c.in-Some.found.0) c.in-Some.found.1 found c.in-Some.ensures.size
+    let found : sealed_at v before c.read_next.new.ahead.bytes ≡ Some (record_of c.in-Some.found.0) = ap (sealed_at v before) (sym c.bytes.ensures) ∙ sym c.in-Some.ensures.found in
+    found_fits_there v before c.read_next.new.ahead.bytes (record_of c.in-Some.found.0) c.in-Some.found.1 found c.in-Some.ensures.size
 
 pub returns-in-None-clause-piece : goal.returns-in-None-clause-piece
 returns-in-None-clause-piece g c = λ observed fed read next.
     let v = c.args.version in
     let before = held v c.args.before.now in
-    let now = c.in_ok-fill.ensures.kept observed fed read in
-    let none : sealed_at v before c.fill.new.self.bytes ≡ None = ap (sealed_at v before) (sym c.bytes.ensures) ∙ sym c.in-None.ensures.found in
-    no_piece c.end_at.result v before fed (g.S.Source.left c.fill.new.source) c.fill.new.self c.args.at now c.in_ok-fill.ensures.enough none c.end_at.ensures next
+    let now = c.in_ok-read_next.ensures.kept observed fed read in
+    let none : sealed_at v before c.read_next.new.ahead.bytes ≡ None = ap (sealed_at v before) (sym c.bytes.ensures) ∙ sym c.in-None.ensures.found in
+    no_piece c.end_at.result v before fed (g.S.Source.left c.read_next.new.source) c.read_next.new.ahead c.args.at now c.in_ok-read_next.ensures.enough none c.end_at.ensures next

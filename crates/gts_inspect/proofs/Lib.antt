@@ -1,0 +1,5 @@
+mod Cited
+mod FirstLemmas
+mod RuleLemmas
+mod OrderLemmas
+mod RouteLemmas

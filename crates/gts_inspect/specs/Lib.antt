@@ -1,0 +1,4 @@
+pub mod Findings
+pub mod Routing
+pub mod Worked
+pub mod Cited

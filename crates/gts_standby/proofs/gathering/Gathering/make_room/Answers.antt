@@ -1,5 +1,0 @@
-use Rattle.gts_standby.proofs.GatherLemmas.{still_brings}
-use Rattle.gts_standby.proofs.gathering.Gathering.make_room.Goals as goal
-
-pub returns-then-is_there-clause-moments : goal.returns-then-is_there-clause-moments
-returns-then-is_there-clause-moments g c = λ tell. still_brings g.P.Station.observed tell c.args.directory.now (g.P.Station.calls c.args.station.now) c.args.self.now
