@@ -1,5 +1,5 @@
 -- A command that was done had nothing fail under it: from its status to how the call below it ended.
-use Rattle.gts_app.proofs.Cited.{◌≡◌, Result, Ok, Err, IsErrOf, OnOk, refl, subst, Done, Failed, Ghosts as StationMeanings, Handed, IsOldReadEnd, IsReadEnd, IsRefusal, OpenFault, Opens, ReadsDirectory, ReadsOldDirectory, SourceMeanings, Status, SwitchFault, refusal, status_compacted, status_said}
+use Rattle.gts_app.proofs.Cited.{◌≡◌, Result, Ok, Err, IsErrOf, OnOk, refl, subst, Done, Failed, Ghosts as StationMeanings, Handed, IsOldReadEnd, IsReadEnd, IsRefusal, OpenFault, Opens, ReadsDirectory, ReadsOldDirectory, SourceMeanings, Status, SwitchFault, Usage, refusal, status_compacted, status_said}
 use Rattle.gts_event.specs.declared.fault.SwitchFault.TheVariants as switch
 use Rattle.gts_record.specs.declared.fault.OpenFault.TheVariants as opening
 
