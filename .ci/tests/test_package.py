@@ -81,14 +81,14 @@ def calls_of(usage):
     for call in usage.removeprefix('usage: ').replace(' or ', ', ').split(', '):
         word, _, more = call.partition(' [')
         yield word
-        yield from (f'{word} {one}' for one in more.rstrip(']').split('|') if one)
+        yield from (f'{word} {one.partition(" [")[0]}' for one in more.rstrip(']').split('|') if one)
 
 
 def check_page(text):
     lines = lines_of_faults()
     usage = next(line for line, _ in lines if line.startswith('usage: '))
     calls = text.partition(' DESCRIPTION ')[0].split(' gts_switch ')
-    calls = [form for call in calls for form in (call.replace(' [N]', ''), call.replace('[N]', 'N'))]
+    calls = [form for call in calls for form in (call.replace(' [N]', ''), call.replace('[N]', 'N'), call.replace('"TTAAii CCCC" [cc]', 'HEADING'))]
     for words in calls_of(usage):
         wants(f'the synopsis has {words}', words in calls, True)
     for word in re.findall(r'(?:, | or )([a-z]+)', usage.replace('usage: ', ', ')):
