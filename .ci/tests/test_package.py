@@ -1,6 +1,7 @@
 """What is installed of the program: by packaging/install under a folder of its own, and as a package of Debian in a root that has
 nothing else. The manual page renders without a warning and names every command, file, end and line; the units are sound, and the
 alerts name what is there, and fire when they should; a standby follows only where no switch is to run; what was installed runs;
+each script beside the switch has help and a manual page, and does nothing behind words that it doesn't know;
 lintian finds no error; what was installed by hand before the package is told; systemd is told of what comes and goes; and when the
 package is removed, and purged, each byte of the journal stays. A release is made of a clean commit over which the gate has passed,
 of the program that the gate tried, and of nothing else.
@@ -8,7 +9,8 @@ of the program that the gate tried, and of nothing else.
     --break page       the manual page lacks its table of ends
     --break condition  a standby follows beside a switch that is to run
     --break journal    removing the package takes the journal with it
-    --break release    the gate of a release has failed"""
+    --break release    the gate of a release has failed
+    --break words      a script takes a word that it doesn't know for the name of a file"""
 import hashlib
 import os
 import re
@@ -233,7 +235,7 @@ def test_what_is_installed(program, broken, tmp_path):
     wants('it tells of neighbours on other hosts', 'IPAddressAllow' in said, True)
     text = page_text(os.path.join(prefix, 'share/man/man1/gts_switch.1'))
     check_page(text.replace('EXIT STATUS', '').split(' 0 All was done')[0] if broken == 'page' else text)
-    for name in ('gts-switch-status', 'gts-switch-follow', 'gts-switch-ship', 'gts-switch-files'):
+    for name in scripts():
         wants(f'the page of {name}', f'{name} - ' in page_text(os.path.join(prefix, f'share/man/man1/{name}.1')), True)
     units = os.path.join(prefix, 'lib/systemd/system')
     for name in sorted(os.listdir(units)):
@@ -247,6 +249,40 @@ def test_what_is_installed(program, broken, tmp_path):
     wants('its lines', re.findall(r'^gts_switch_(\w+)(?:\{.*\})? (\d+)$', said, re.M),
           [('show_status', '0'), ('accepted_total', '0'), ('journal_used_bytes', str(os.path.getsize(os.path.join(folder, 'journal.1')))), ('journal_limit_bytes', str(USUAL_LIMIT)),
            ('drawn_total', '0'), ('waiting', '0')])
+
+
+def scripts():
+    """The names of the scripts beside the switch."""
+    return sorted(name for name in os.listdir(os.path.join(TOP, 'packaging'))
+                  if name.startswith('gts-switch-') and os.access(os.path.join(TOP, 'packaging', name), os.X_OK))
+
+
+@pytest.mark.parametrize('name', scripts())
+def test_a_script_has_help_and_does_nothing_behind_other_words(name, broken, tmp_path):
+    """In a folder that has what the script would write over, over programs that take down that they were called."""
+    script, work, stubs = os.path.join(TOP, 'packaging', name), tmp_path / 'work', tmp_path / 'stubs'
+    for folder in (work, stubs):
+        folder.mkdir()
+    for stub in ('ssh', 'gts_switch', 'systemctl', 'journalctl'):
+        (stubs / stub).write_text(f'#!/bin/sh\necho {stub} "$@" >>{tmp_path}/called\n')
+        (stubs / stub).chmod(0o755)
+    for file in ('capture.gts', 'directory.toml', 'receipts', 'FILE'):
+        (work / file).write_text(f'{file}\n')
+    before, more = everything(str(work)), {**os.environ, 'PATH': f'{stubs}:{os.environ["PATH"]}'}
+    if broken == 'words':
+        script = str(stubs / name)
+        Folder('', str(stubs)).write(name, '#!/bin/sh\necho >"$1"\n')
+        os.chmod(script, 0o755)
+    for word in ('--help', '-h'):
+        status, said, line = run([script, word], str(work), env=more)
+        wants(f'{name} {word}', (status, name in said, line), (0, True, ''))
+        wants(f'{name} FILE {word}', run([script, 'FILE', word], str(work), env=more)[::2], (0, ''))
+    for words in (['--no-such-word'], ['FILE', '--no-such-word'], ['-n'], ['a'] * 9):
+        status, said, line = run([script, *words], str(work), env=more)
+        wants(f'{name} {" ".join(words)}', (status, said, bool(line)), (2, '', True))
+    wants('what was there', everything(str(work)), before)
+    wants('what was called', os.path.exists(tmp_path / 'called'), False)
+    wants('its manual page', f'{name} - ' in page_text(os.path.join(TOP, 'packaging', f'{name}.1')), True)
 
 
 def clean_root(at):
