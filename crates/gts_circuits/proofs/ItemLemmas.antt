@@ -1,6 +1,6 @@
 -- Items of lists, by their places.
-use Rattle.gts_circuits.proofs.Cited.{◌≡◌, ◌≢◌, ℕ, zero, suc, ◌<◌, List, [], ◌∷◌, ◌++◌, length, length-append, ◌+◌, map, take, get_or, slice_set, slice_index_or, Some, refl, sym, ap, ◌∙◌, arith, add-one, slice_get, map-append, some, some-injective, some-ne-none, get_elem?, Beginning, Circuit, CircuitRoom, again_at, again_of, common_steps}
-use Rattle.gts_circuits.proofs.PlacesLemmas.{in_middle, map_at}
+use Rattle.gts_circuits.proofs.Cited.{◌≡◌, ◌≢◌, ◌⊎◌, inl, inr, ℕ, zero, suc, ◌<◌, List, [], ◌∷◌, ◌++◌, length, length-append, ◌+◌, map, take, get_or, slice_set, slice_index_or, Some, refl, sym, ap, ◌∙◌, arith, add-one, slice_get, map-append, some, some-injective, some-ne-none, get_elem?, Beginning, Circuit, CircuitRoom, Sockets, again_asked, again_at, again_of, place_asked, common_steps}
+use Rattle.gts_circuits.proofs.PlacesLemmas.{in_middle, last_or_before, map_at}
 
 module _ {A : Type 0} where
   pub item_at : (xs : List A) (k : ℕ) (d : A) → k < length xs → get_elem? xs k ≡ some (get_or xs k d)
@@ -29,9 +29,13 @@ module _ {A : Type 0} where
   less_than_all xs x rest all is = let e : length xs + length (x ∷ rest) ≡ length all = sym (length-append xs (x ∷ rest)) ∙ ap (λ (l : List A). length l) is in omega (arith, e)
 
 -- what is asked of the room at its place
-pub asked_at : {B : Type 0} (asked : CircuitRoom → B) (before : List CircuitRoom) (room : CircuitRoom) (rest all : List CircuitRoom) (c : ℕ) → before ++ room ∷ rest ≡ all → c ≡ length before
+asked_there : {B : Type 0} (asked : CircuitRoom → B) (before : List CircuitRoom) (room : CircuitRoom) (rest all : List CircuitRoom) (c : ℕ) → before ++ room ∷ rest ≡ all → c ≡ length before
     → get_elem? (map asked all) c ≡ some (asked room)
-asked_at asked before room rest all c is place = ap (get_elem? (map asked all)) place ∙ map_at asked all (length before) room (in_middle before room rest all is)
+asked_there asked before room rest all c is place = ap (get_elem? (map asked all)) place ∙ map_at asked all (length before) room (in_middle before room rest all is)
+
+pub asked_at : (before : List CircuitRoom) (room : CircuitRoom) (rest all : List CircuitRoom) (c : ℕ) → before ++ room ∷ rest ≡ all → c ≡ length before
+    → get_elem? (map place_asked all) c ≡ some (place_asked room)
+asked_at before room rest all c is place = asked_there place_asked before room rest all c is place
 
 -- one item more of a list that was mapped
 pub take_next : {A B : Type 0} (f : A → B) (xs : List A) (k : ℕ) (x : A) → slice_get xs k ≡ Some x → take (suc k) (map f xs) ≡ take k (map f xs) ++ f x ∷ []
@@ -49,6 +53,17 @@ rooms_more {B} asked by rooms new room rows k row is before at same =
     ∙ ap (λ (n : ℕ). take n (map by rows)) (sym (add-one k))
 
 -- ---- with how many of the last draws a line begins
+
+-- what is asked is kept of one circuit more
+pub again_more : {S K : Type 0} (before : List CircuitRoom) (room : CircuitRoom) (rest all : List CircuitRoom) (xs : List (Sockets S K)) (x : Sockets S K) → before ++ room ∷ rest ≡ all → length xs ≡ length before
+    → x.again ≡ again_asked room → ((k : ℕ) (y : Sockets S K) → get_elem? xs k ≡ some y → get_elem? (map again_asked all) k ≡ some y.again)
+    → (k : ℕ) (y : Sockets S K) → get_elem? (xs ++ x ∷ []) k ≡ some y → get_elem? (map again_asked all) k ≡ some y.again
+again_more {S} {K} before room rest all xs x is count same others k y at = elim (last_or_before xs x k y at) as (λ _. get_elem? (map again_asked all) k ≡ some y.again) [
+  | inl earlier ↦ others k y earlier
+  | inr last ↦
+      asked_there again_asked before room rest all k is (last.0 ∙ count) ∙ ap (λ (n : ℕ). some n) (sym same)
+      ∙ ap (λ (z : Sockets S K). some z.again) last.1
+]
 
 slice_at : (xs : List ℕ) (k x : ℕ) → get_elem? xs k ≡ some x → slice_index_or xs k 0 ≡ x
 slice_at [] k x at = absurd (some-ne-none x (sym at))

@@ -193,7 +193,8 @@ module _ (b : Beginning) {S K : Type 0} (incoming : SourceMeanings S) (outgoing 
       → PassKeeps b incoming outgoing c hall (Writes s.sink) l p → has_end l ≡ true
       → (y : Outgoing K) × (sink_of l ≡ y ∷ []) × (source_of l ≡ []) × OutStands c y
   sender_line c s (lines.Outgoing sink again given (Some end)) p opened front same full keeps ended =
-      let r : SenderKeeps outgoing c (again_at b c) s.sink sink (fresh b hall (sender_name c)) (seen_by b p) end = keeps.keeps in
+      let K : ℕ → Type 0 = λ n. SenderKeeps outgoing c n s.sink sink (fresh b hall (sender_name c)) (seen_by b p) end in
+      let r : SenderKeeps outgoing c (again_at b c) s.sink sink (fresh b hall (sender_name c)) (seen_by b p) end = subst K keeps.keeps.0 keeps.keeps.1 in
       let R : Seen → Type 0 = λ d. Sends c (again_at b c) (fresh b hall (sender_name c)) d r.bytes end in (
         record { sink = sink; frame = given.one; end = end },
         refl,

@@ -102,7 +102,7 @@ module _ (b : Beginning) {S K : Type 0} (incoming : SourceMeanings S) (outgoing 
   LineKeeps c hall (Writes first) (Outgoing now again given None) seen =
       (now ≡ first) × (again ≡ again_at b c) × (seen ≡ fresh b hall (sender_name c))
   LineKeeps c hall (Writes first) (Outgoing now again given (Some end)) seen =
-      SenderKeeps outgoing c (again_at b c) first now (fresh b hall (sender_name c)) seen end
+      (again ≡ again_at b c) × SenderKeeps outgoing c again first now (fresh b hall (sender_name c)) seen end
   LineKeeps c hall (Reads many first) (Outgoing now again given end) seen = ⊥
   LineKeeps c hall (Writes first) (Incoming now connections decoder end) seen = ⊥
 

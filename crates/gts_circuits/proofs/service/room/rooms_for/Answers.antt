@@ -10,7 +10,7 @@ loop-c-preserved c =
     let is = c.push_reserved.ensures.items in
     record {
       count = ap (λ (l : List _). length l) is ∙ length-append rooms (_ ∷ []) ∙ ap (λ (n : _). n + 1) i.count;
-      places = rooms_more place_asked (place_of c.args.directory.now) rooms c.push_reserved.new.self.items _ c.args.directory.now.circuits c.loop-c.c (circuit_of_row c.circuit.result.now) is i.places c.circuit.ensures.row c.place_for.ensures;
-      again = rooms_more again_asked (again_of c.args.always) rooms c.push_reserved.new.self.items _ c.args.directory.now.circuits c.loop-c.c (circuit_of_row c.circuit.result.now) is i.again c.circuit.ensures.row c.again_of.ensures;
+      places = rooms_more place_asked (place_of c.args.directory.now) rooms c.push_reserved.new.self.items _ c.args.directory.now.circuits c.loop-c.c (circuit_of_row c.circuit-row.result.now) is i.places c.circuit-row.ensures.row c.place_for.ensures;
+      again = rooms_more again_asked (again_of c.args.always) rooms c.push_reserved.new.self.items _ c.args.directory.now.circuits c.loop-c.c (circuit_of_row c.circuit-row.result.now) is i.again c.circuit-row.ensures.row c.again_of.ensures;
       room = omega (arith, i.room, c.push_reserved.ensures.capacity);
     }

@@ -1,4 +1,4 @@
-use Rattle.gts_circuits.proofs.Cited.{◌≡◌, ◌++◌, ◌∙◌, length, ap, subst, sym, again_at}
+use Rattle.gts_circuits.proofs.Cited.{◌≡◌, ℕ, ◌++◌, ◌∙◌, length, ap, subst, sym, again_at}
 use Rattle.gts_circuits.proofs.PlacesLemmas.{in_middle}
 use Rattle.gts_circuits.proofs.workers.staffing.staff.Goals as goal
 
@@ -11,4 +11,4 @@ pub sender-sender-requires-clause-again : goal.sender-sender-requires-clause-aga
 sender-sender-requires-clause-again g c =
     let split = subst (λ (l : _). c.loop-both.yielded ++ l ≡ c.args.sockets.items) c.in-Some.ensures.steps.0 c.loop-both.invariant.split in
     c.requires.again (length c.loop-both.yielded) c.in-Some.both (in_middle c.loop-both.yielded c.in-Some.both _ c.args.sockets.items split)
-    ∙ ap (again_at g.B.Began.beginning) (sym c.loop-both.invariant.circuit)
+    ∙ ap (λ (k : ℕ). again_at g.B.Began.beginning k) (sym c.loop-both.invariant.circuit)
