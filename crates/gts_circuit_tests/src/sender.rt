@@ -185,7 +185,6 @@ fn a_frame_that_was_begun_is_not_begun_again(rt: HostRuntime) -> Result<(), Fail
     Ok(())
 }
 
-/// A sender at a desk that is asked to begin a line anew, and can't, and what its sink took.
 #[test]
 fn a_line_is_begun_anew_before_the_first_take(rt: HostRuntime) -> Result<(), Fail> {
     let sink = MemSink::new(rt.alloc(), &[])?;
