@@ -1,4 +1,4 @@
-ghost use Rattle.std.specs.Prelude.{◌≡◌, ℕ, ◌<◌};
+ghost use Rattle.std.specs.Prelude.{◌≡◌, ℕ, ◌<◌, ◌+◌};
 ghost use Rattle.gts_tcp.specs.Spans.{IsAmong};
 
 use crate::numbers::{Digits, number_in, place_up_to};
@@ -137,12 +137,16 @@ impl fmt::Display for Handed {
 pub(crate) struct Missing {
     frames: u64,
     places: Places,
-    /// How many of the last draws the line was begun with.
     again: u32,
 }
 
 impl Missing {
-    /// What is missing of both.
+    /// How many of the last draws the line was begun with.
+    pub(crate) fn again(self) -> u32 {
+        self.again
+    }
+
+    /// What may be missing of both.
     pub(crate) fn joined(self, later: Missing) -> Missing
         ensures one { (p : ℕ) → IsAmong p self.places → IsAmong p result.places }
         ensures other { (p : ℕ) → IsAmong p later.places → IsAmong p result.places }
@@ -157,15 +161,7 @@ impl Missing {
 
 impl fmt::Display for Missing {
     fn fmt<W: fmt::Write>(&self, f: &mut fmt::Formatter<W>) -> fmt::Result {
-        let Missing {
-            frames,
-            places,
-            again,
-        } = *self;
-        match again {
-            0 => write!(f, "nothing comes again; ")?,
-            _ => write!(f, "begun anew with the last {again}; ")?,
-        }
+        let Missing { frames, places, .. } = *self;
         if frames == 0 {
             return write!(f, "nothing may be missing");
         }

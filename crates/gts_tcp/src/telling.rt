@@ -67,7 +67,13 @@ impl fmt::Display for News {
                 f,
                 "output {port}: broke: {why}; handed in the minute up to {ago} s ago: {handed}"
             ),
-            News::Begun { port, missing } => write!(f, "output {port}: {missing}"),
+            News::Begun { port, missing } => match missing.again() {
+                0 => write!(f, "output {port}: nothing comes again; {missing}"),
+                again => write!(
+                    f,
+                    "output {port}: begun anew with the last {again}; {missing}"
+                ),
+            },
         }
     }
 }
