@@ -1,4 +1,4 @@
-ghost use Rattle.std.specs.Prelude.{◌≡◌, ℕ, ◌+◌, ◌-◌, ◌%◌, ◌<◌, ◌∷◌, ◌↔◌, drop, nat_eq, true, IfNone, IfSome, IsSome};
+ghost use Rattle.std.specs.Prelude.{◌≡◌, ℕ, ◌+◌, ◌%◌, ◌<◌, ◌≤◌, ◌∷◌, ◌↔◌, drop, nat_eq, true, IfNone, IfSome, IsSome};
 ghost use Rattle.gts_tcp.specs.Cited.{EOL, FRAME_HEAD, SOH, starts_with};
 ghost use Rattle.gts_tcp.specs.Numbers.{Carries, IsNumberAt, behind_start, count_of, round_of};
 

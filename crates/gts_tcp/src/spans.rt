@@ -1,4 +1,4 @@
-ghost use Rattle.std.specs.Prelude.{◌≡◌, ℕ, ◌≤◌, ◌<◌, ◌↔◌, ◌⊎◌, ⊥};
+ghost use Rattle.std.specs.Prelude.{◌≡◌, ℕ, ◌≤◌, ◌<◌, ◌↔◌, ◌⊎◌};
 ghost use Rattle.gts_tcp.specs.Spans.{IsAmong, IsIn, IsInSome};
 
 use crate::numbers::{Digits, Numbered, standing_at};
