@@ -516,7 +516,7 @@ def test_the_package_in_a_clean_root(program, package, broken, tmp_path):
     status, said = dpkg(root, '--install', package)
     wants('the installation of the package', status, 0)
     wants('what was installed by hand is told', sorted(re.findall('^gts-switch: (.*) was installed by hand', said, re.M)), by_hand)
-    wants('all of it', len(by_hand), 13)
+    wants('all of it', len(by_hand), 14)
     begins = ['daemon-reload', 'try-restart gts_switch.service gts_switch-receipts.service gts_switch-files@*.service']
     wants('systemd is told of the units', told_systemd(), begins)
     shutil.rmtree(os.path.join(root, 'usr/local'))
