@@ -29,7 +29,8 @@ pub(crate) fn no_rule(
     row: &CircuitRow,
 ) -> Option<Finding>
     requires { circuit < length directory.now.circuits }
-    ensures { result ≡ findings.no_rule (map (rule_of_row (length directory.now.circuits)) rules.now) circuit
+    ensures { result ≡ findings.no_rule
+        (map (rule_of_row (length directory.now.circuits)) rules.now) circuit
         (circuit_of_row row.now) }
 {
     directory.bounds_hold();
@@ -41,7 +42,8 @@ pub(crate) fn no_rule(
 
 /// Whether a rule names a circuit.
 fn names_one(directory: &Directory, rule: &RuleRow) -> bool
-    ensures { result ≡ findings.names_one (length directory.now.circuits) (rule_of_row (length directory.now.circuits) rule.now) }
+    ensures { result ≡ findings.names_one (length directory.now.circuits)
+        (rule_of_row (length directory.now.circuits) rule.now) }
 {
     let count = directory.circuits() as usize;
     let mut one = false;
@@ -53,7 +55,8 @@ fn names_one(directory: &Directory, rule: &RuleRow) -> bool
 
 /// Whether each circuit that a rule names, another one names too.
 fn names_all(directory: &Directory, by: &RuleRow, rule: &RuleRow) -> bool
-    ensures { result ≡ findings.names_all (length directory.now.circuits) (rule_of_row (length directory.now.circuits) by.now)
+    ensures { result ≡ findings.names_all (length directory.now.circuits)
+        (rule_of_row (length directory.now.circuits) by.now)
         (rule_of_row (length directory.now.circuits) rule.now) }
 {
     let count = directory.circuits() as usize;
@@ -66,7 +69,8 @@ fn names_all(directory: &Directory, by: &RuleRow, rule: &RuleRow) -> bool
 
 /// Whether a rule says all that another one says.
 fn covers(directory: &Directory, by: &RuleRow, rule: &RuleRow) -> bool
-    ensures { result ≡ findings.covers (length directory.now.circuits) (rule_of_row (length directory.now.circuits) by.now)
+    ensures { result ≡ findings.covers (length directory.now.circuits)
+        (rule_of_row (length directory.now.circuits) by.now)
         (rule_of_row (length directory.now.circuits) rule.now) }
 {
     agrees(&by.heading, &rule.heading) && names_all(directory, by, rule)
@@ -74,7 +78,8 @@ fn covers(directory: &Directory, by: &RuleRow, rule: &RuleRow) -> bool
 
 /// A rule names no circuit.
 pub(crate) fn no_circuit(directory: &Directory, rule: usize, row: &RuleRow) -> Option<Finding>
-    ensures { result ≡ findings.no_circuit (length directory.now.circuits) rule (rule_of_row (length directory.now.circuits) row.now) }
+    ensures { result ≡ findings.no_circuit (length directory.now.circuits) rule
+        (rule_of_row (length directory.now.circuits) row.now) }
 {
     if !names_one(directory, row) {
         return Some(Finding::NoCircuit { rule });
@@ -84,7 +89,8 @@ pub(crate) fn no_circuit(directory: &Directory, rule: usize, row: &RuleRow) -> O
 
 /// Whether two rules that name a circuit say the same.
 fn says_too(directory: &Directory, row: &RuleRow, other: &RuleRow) -> bool
-    ensures { result ≡ findings.says_too (length directory.now.circuits) (rule_of_row (length directory.now.circuits) row.now)
+    ensures { result ≡ findings.says_too (length directory.now.circuits)
+        (rule_of_row (length directory.now.circuits) row.now)
         (rule_of_row (length directory.now.circuits) other.now) }
 {
     covers(directory, other, row) && covers(directory, row, other) && names_one(directory, row)
@@ -93,7 +99,8 @@ fn says_too(directory: &Directory, row: &RuleRow, other: &RuleRow) -> bool
 /// The first of some rules that says the same.
 fn first_same(directory: &Directory, before: &[RuleRow], row: &RuleRow) -> Option<usize>
     ensures { result ≡ first (λ other. findings.says_too (length directory.now.circuits)
-        (rule_of_row (length directory.now.circuits) row.now) (rule_of_row (length directory.now.circuits) other)) before.now }
+        (rule_of_row (length directory.now.circuits) row.now)
+        (rule_of_row (length directory.now.circuits) other)) before.now }
 {
     before
         .iter()
@@ -108,7 +115,8 @@ pub(crate) fn rule_twice(
     rule: usize,
     row: &RuleRow,
 ) -> Option<Finding>
-    ensures { result ≡ findings.rule_twice (length directory.now.circuits) (map (rule_of_row (length directory.now.circuits)) before.now) rule
+    ensures { result ≡ findings.rule_twice (length directory.now.circuits)
+        (map (rule_of_row (length directory.now.circuits)) before.now) rule
         (rule_of_row (length directory.now.circuits) row.now) }
 {
     let earlier = first_same(directory, before, row)?;
@@ -117,7 +125,8 @@ pub(crate) fn rule_twice(
 
 /// Whether another rule says all that a rule says, which names a circuit, and more.
 fn says_more(directory: &Directory, row: &RuleRow, other: &RuleRow) -> bool
-    ensures { result ≡ findings.says_more (length directory.now.circuits) (rule_of_row (length directory.now.circuits) row.now)
+    ensures { result ≡ findings.says_more (length directory.now.circuits)
+        (rule_of_row (length directory.now.circuits) row.now)
         (rule_of_row (length directory.now.circuits) other.now) }
 {
     covers(directory, other, row) && !covers(directory, row, other) && names_one(directory, row)
@@ -126,7 +135,8 @@ fn says_more(directory: &Directory, row: &RuleRow, other: &RuleRow) -> bool
 /// The first of some rules that says more.
 fn first_more(directory: &Directory, rules: &[RuleRow], row: &RuleRow) -> Option<usize>
     ensures { result ≡ first (λ other. findings.says_more (length directory.now.circuits)
-        (rule_of_row (length directory.now.circuits) row.now) (rule_of_row (length directory.now.circuits) other)) rules.now }
+        (rule_of_row (length directory.now.circuits) row.now)
+        (rule_of_row (length directory.now.circuits) other)) rules.now }
 {
     rules
         .iter()
@@ -141,7 +151,8 @@ pub(crate) fn rule_covered(
     rule: usize,
     row: &RuleRow,
 ) -> Option<Finding>
-    ensures { result ≡ findings.rule_covered (length directory.now.circuits) (map (rule_of_row (length directory.now.circuits)) rules.now) rule
+    ensures { result ≡ findings.rule_covered (length directory.now.circuits)
+        (map (rule_of_row (length directory.now.circuits)) rules.now) rule
         (rule_of_row (length directory.now.circuits) row.now) }
 {
     let by = first_more(directory, rules, row)?;
