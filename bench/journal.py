@@ -130,6 +130,10 @@ class State:
         places = range(max(0, self.accepted - self.directory.window), self.accepted)
         return [self.bulletins[position] for position in places if position in self.bulletins]
 
+    def came(self, circuit):
+        """How many bulletins came to a circuit: those that were drawn, and those that wait."""
+        return self.draws(circuit) + len(self.waiting[circuit])
+
     def draws(self, circuit):
         return self.before[circuit] + len(self.drawn[circuit])
 
@@ -479,8 +483,9 @@ class Following:
         except Bad:
             return False
         own = self.journal.state
-        circuits = range(len(self.journal.directory.names))
-        return fed.accepted >= own.accepted and all(fed.draws(circuit) >= own.draws(circuit) for circuit in circuits)
+        return fed.accepted >= own.accepted and all(
+            fed.draws(circuit) >= own.draws(circuit) and fed.came(circuit) >= own.came(circuit)
+            for circuit in range(len(self.journal.directory.names)))
 
     def begin_anew(self):
         """The journal has no record, and the next one goes into the other file."""

@@ -1,6 +1,8 @@
 """What is installed of the program: by packaging/install under a folder of its own, and as a package of Debian in a root that has
 nothing else. The manual page renders without a warning and names every command, file, end and line; the units are sound, and the
 alerts name what is there, and fire when they should; a standby follows only where no switch is to run; what was installed runs;
+what is counted for Prometheus came; each
+script beside the switch has help and a manual page, and does nothing behind words that it doesn't know;
 lintian finds no error; what was installed by hand before the package is told; systemd is told of what comes and goes; and when the
 package is removed, and purged, each byte of the journal stays. A release is made of a clean commit over which the gate has passed,
 of the program that the gate tried, and of nothing else.
@@ -8,12 +10,15 @@ of the program that the gate tried, and of nothing else.
     --break page       the manual page lacks its table of ends
     --break condition  a standby follows beside a switch that is to run
     --break journal    removing the package takes the journal with it
-    --break release    the gate of a release has failed"""
+    --break release    the gate of a release has failed
+    --break counts     a refused message isn't counted
+    --break words      a script takes a word that it doesn't know for the name of a file"""
 import hashlib
 import os
 import re
 import shlex
 import shutil
+import socket
 import subprocess
 
 import gate
@@ -81,14 +86,14 @@ def calls_of(usage):
     for call in usage.removeprefix('usage: ').replace(' or ', ', ').split(', '):
         word, _, more = call.partition(' [')
         yield word
-        yield from (f'{word} {one}' for one in more.rstrip(']').split('|') if one)
+        yield from (f'{word} {one.partition(" [")[0]}' for one in more.rstrip(']').split('|') if one)
 
 
 def check_page(text):
     lines = lines_of_faults()
     usage = next(line for line, _ in lines if line.startswith('usage: '))
     calls = text.partition(' DESCRIPTION ')[0].split(' gts_switch ')
-    calls = [form for call in calls for form in (call.replace(' [N]', ''), call.replace('[N]', 'N'))]
+    calls = [form for call in calls for form in (call.replace(' [N]', ''), call.replace('[N]', 'N'), call.replace('"TTAAii CCCC" [cc]', 'HEADING'))]
     for words in calls_of(usage):
         wants(f'the synopsis has {words}', words in calls, True)
     for word in re.findall(r'(?:, | or )([a-z]+)', usage.replace('usage: ', ', ')):
@@ -156,25 +161,132 @@ def units_of(text):
     return re.findall(r'[{,]name="([^"]*)"', text)
 
 
-def test_alerts_are_about_what_is_there(program, tmp_path):
-    """Each rule is whole, and names metrics that gts-switch-status writes and units that are installed."""
+# What the running switch tells of its circuits, in the words of docs/OPERATING.md, and in those of a break of later versions.
+TOLD = [('00', 'turned_away', 'gts_switch: circuit 0: turned away 192.0.2.9'),
+        ('00', 'input_failed', 'gts_switch: circuit 0: input {}: read: Connection reset by peer (os error 104)'),
+        ('01', 'output_failed', 'gts_switch: circuit 1: output 4102: connect: Connection refused (os error 111)'),
+        ('01', 'connected', 'gts_switch: circuit 1: output 4102: connected'),
+        ('01', 'broke', 'gts_switch: circuit 1: output 4102: broke: Connection reset by peer (os error 104); may be missing of the minute up '
+         'to 10 s ago: 3010 frames, 105350 bytes, numbers 001 to 010; a round of 1000 or more, which the neighbour can\'t see'),
+        ('01', 'broke', 'gts_switch: circuit 1: output 4102: broke: connection aborted; handed in the minute up to 3 s ago: 12 frames, 420 bytes'),
+        ('01', 'begun_anew', 'gts_switch: circuit 1: output 4102: begun anew with the last 100; may be missing: 7 frames'),
+        ('00', 'waits_for_room', 'gts_switch: circuit 0 waits for room'),
+        ('01', 'waits_for_room', 'gts_switch: circuit 1 waits for room'),
+        ('01', 'goes_on', 'gts_switch: circuit 1 goes on')]
+RECEIVED = ['ACC 0 0 1 SMBR01 TBPB 280600', 'ACC 0 1 1 SMBR02 TBPB 280600', 'DUP 1 0', 'ASK 1 3 0', 'REF 0 Heading', 'REF 0 Heading', 'LOS 1 Length']
+
+
+class Told:
+    """A folder with what gts-switch-status reads: receipts, lines that were told, a switch's report, and a port on which one listens."""
+
+    def __init__(self, at, broken=None):
+        self.folder, self.broken = Folder('', str(at)), broken
+        self.listener = socket.create_server(('127.0.0.1', 0))
+        self.port = self.listener.getsockname()[1]
+        self.folder.write('directory.toml', 'centre = "TVSV"\n' + ''.join(
+            f'[[circuit]]\nname = "{name}"\npeer = "{name[:4]}"\ninput = {self.port + place}\noutput = {4101 + place}\n'
+            for place, name in enumerate(('BARBADOS', 'GRENADA'))))
+        self.reports(2, 0)
+        self.folder.write('gts_switch', '#!/bin/sh\ncat report 2>/dev/null\n')
+        os.chmod(self.folder.path('gts_switch'), 0o755)
+        for name in ('receipts', 'faults'):
+            self.folder.write(name, '')
+
+    def reports(self, drawn, waiting):
+        self.folder.write('report', f'accepted 2\ncircuit 00 BARBADOS draws {drawn} waiting {waiting} last 002\n'
+                                    'circuit 01 GRENADA draws 0 waiting 0 last -\njournal used 300 limit 1000\nend\n')
+
+    def more(self, name, lines):
+        with open(self.folder.path(name), 'a') as file:
+            file.write(''.join(f'{line}\n' for line in lines))
+
+    def call(self):
+        """What is written, each metric with its labels and its value."""
+        more = {**os.environ, 'PATH': f'{self.folder.at}:{os.environ["PATH"]}'}
+        words = [os.path.join(TOP, 'packaging/gts-switch-status'), '--log', 'faults', 'written.prom']
+        wants('gts-switch-status', run(words, self.folder.at, env=more), (0, '', ''))
+        text = self.folder.read('written.prom').decode()
+        if self.broken == 'counts':
+            text = text.replace('outcome="refused"} 2', 'outcome="refused"} 1')
+        return dict(re.findall(r'^gts_switch_(\S+) (\S+)$', re.sub(r'" *,? *text="[^"]*', '', text), re.M))
+
+
+def test_what_prometheus_is_told(broken, tmp_path):
+    """Of receipts, lines and connections each is counted once, over several calls."""
+    told = Told(tmp_path, broken)
+    first = told.call()
+    names = {'00': 'circuit="00",name="BARBADOS"', '01': 'circuit="01",name="GRENADA"'}
+    wants('at first', [first.get(f'{name}{{{names["00"]}{more}}}') for name, more in
+                       (('received_total', ',outcome="accepted"'), ('told_total', ',kind="broke"'), ('line_up', ',way="in"'))], ['0', '0', '0'])
+    told.more('receipts', ['START 2026-01-01T00:00:00Z', *RECEIVED])
+    told.more('faults', [line.format(told.port) for _, _, line in TOLD])
+    told.reports(1, 3)
+    with socket.create_connection(('127.0.0.1', told.port)):
+        second = told.call()
+        # Half a line isn't counted yet, and is once it is whole.
+        with open(told.folder.path('receipts'), 'a') as file:
+            file.write('ACC 0 2')
+        wants('once more', {key: value for key, value in told.call().items() if 'total' in key},
+              {key: value for key, value in second.items() if 'total' in key})
+    told.more('receipts', [' 1 SMBR03 TBPB 280600'])
+    last = told.call()
+    got = {key: second.get(key) for key in (f'{name}{{{labels}{more}}}' for labels in names.values() for name, more in (
+        [('received_total', f',outcome="{outcome}"') for outcome in ('accepted', 'duplicate', 'asked', 'refused', 'lost')]
+        + [('may_be_missing_total', ''), ('waits_for_room', ''), ('line_up', ',way="in"'), ('line_up', ',way="out"')]))}
+    wants('what came and stands', list(got.values()), ['2', '0', '0', '2', '0', '0', '1', '1', '0', '0', '1', '1', '0', '1', '3017', '0', '0', '0'])
+    wants('the fields at fault', {key: value for key, value in second.items() if key.startswith('refused')},
+          {f'refused_total{{{names["00"]},outcome="refused",field="Heading"}}': '2', f'refused_total{{{names["01"]},outcome="lost",field="Length"}}': '1'})
+    for circuit, kind in {row[:2] for row in TOLD}:
+        wants(f'lines {kind} of {circuit}', second.get(f'told_total{{{names[circuit]},kind="{kind}"}}'), str([row[:2] for row in TOLD].count((circuit, kind))))
+    wants('what came last', last.get(f'received_total{{{names["00"]},outcome="accepted"}}'), '3')
+    wants('its line behind that', last.get(f'line_up{{{names["00"]},way="in"}}'), '0')
+    # A start forgets who waited, and where `show` fails the counts stay.
+    told.more('receipts', ['START 2100-01-01T00:00:00Z'])
+    told.folder.remove('report')
+    ended = told.call()
+    wants('behind a start', (ended.get(f'waits_for_room{{{names["00"]}}}'), ended.get('show_status'), ended.get('accepted_total')), ('0', '1', None))
+    wants('counts behind that', ended.get(f'received_total{{{names["00"]},outcome="refused"}}'), '2')
+    told.listener.close()
+
+
+def test_lines_are_read_from_the_journal_of_systemd(tmp_path):
+    """Over a journalctl that gives each line once, behind the one that the call before has seen."""
+    told = Told(tmp_path)
+    told.folder.write('journalctl', '#!/bin/sh\necho "$*" >>called\ncase "$*" in *--after-cursor=c1*) exit 0 ;; esac\n'
+                      'echo \'{"__CURSOR":"c1","__REALTIME_TIMESTAMP":"1796000000000000","MESSAGE":"gts_switch: circuit 1: output 4102: connected"}\'\n')
+    os.chmod(told.folder.path('journalctl'), 0o755)
+    more = {**os.environ, 'PATH': f'{told.folder.at}:{os.environ["PATH"]}'}
+    for _ in range(2):
+        wants('the call', run([os.path.join(TOP, 'packaging/gts-switch-status'), 'written.prom'], told.folder.at, env=more), (0, '', ''))
+    text = told.folder.read('written.prom').decode()
+    wants('the line', re.findall(r'^gts_switch_(?:told_total.*connected.*|log_status|last_told.*) (\d+)$', text, re.M), ['0', '1', '1796000000', '0'])
+    wants('from where it is read', re.findall('--(since|after-cursor)=', told.folder.read('called').decode()), ['since', 'after-cursor'])
+    told.listener.close()
+
+
+def test_alerts_are_about_what_is_there(tmp_path):
+    """Each rule is whole, and names metrics that gts-switch-status or node_exporter write and units that are installed; and there is a
+    trial in which it fires."""
     with open(os.path.join(TOP, 'packaging/alerts.yml')) as file:
         [group] = yaml.safe_load(file)['groups']
-    folder = Folder(program, str(tmp_path), DIRECTORY)
-    wants('init', folder.run('init'), (0, b'', ''))
-    os.symlink(program, tmp_path / 'gts_switch')
-    more = {**os.environ, 'PATH': f'{tmp_path}:{os.environ["PATH"]}'}
-    status, said, line = run([os.path.join(TOP, 'packaging/gts-switch-status')], folder.at, env=more)
-    wants('what Prometheus is told', (status, line), (0, ''))
-    metrics = set(re.findall(r'^(gts_switch_\w+)', said, re.M))
+    with open(os.path.join(TOP, '.ci/tests/alerts.yml')) as file:
+        trials = yaml.safe_load(file)['tests']
+    fired = {rule['alertname'] for trial in trials for rule in trial['alert_rule_test'] if rule.get('exp_alerts')}
+    told = Told(tmp_path)
+    told.call()
+    told.more('receipts', RECEIVED)
+    told.more('faults', [line for _, _, line in TOLD])
+    metrics = {'gts_switch_log_status', *(f'gts_switch_{key.partition("{")[0]}' for key in told.call())}
+    told.listener.close()
     for rule in group['rules']:
-        wants(f'the parts of {rule.get("alert")}', {'alert', 'expr', 'annotations'} <= set(rule) <= {'alert', 'expr', 'for', 'annotations'}, True)
+        wants(f'the parts of {rule.get("alert")}', {*rule} - {'for'}, {'alert', 'expr', 'labels', 'annotations'})
         wants(f'what {rule["alert"]} says', bool(rule['annotations']['summary']), True)
         used = re.findall(r'(?<![.\w"])(gts_switch_\w+)(?!\.)\b', re.sub(r'"[^"]*"', '""', rule['expr']))
         wants(f'metrics of {rule["alert"]}', [name for name in used if name not in metrics], [])
         units = units_of(rule['expr'])
         wants(f'units of {rule["alert"]}', [name for name in units if not os.path.exists(os.path.join(TOP, 'packaging', name))], [])
-        wants(f'{rule["alert"]} asks for something', bool(used or units), True)
+        wants(f'{rule["alert"]} asks for something', bool(used or units or 'node_filesystem' in rule['expr']), True)
+        wants(f'{rule["alert"]} fires in a trial', rule['alert'] in fired, True)
     about = {name for rule in group['rules'] for name in units_of(rule['expr'])}
     wants('the units that alerts are about', about, {f'gts_switch{name}.service' for name in ('', '-receipts', '-standby')})
 
@@ -233,7 +345,7 @@ def test_what_is_installed(program, broken, tmp_path):
     wants('it tells of neighbours on other hosts', 'IPAddressAllow' in said, True)
     text = page_text(os.path.join(prefix, 'share/man/man1/gts_switch.1'))
     check_page(text.replace('EXIT STATUS', '').split(' 0 All was done')[0] if broken == 'page' else text)
-    for name in ('gts-switch-status', 'gts-switch-follow', 'gts-switch-ship', 'gts-switch-files'):
+    for name in scripts():
         wants(f'the page of {name}', f'{name} - ' in page_text(os.path.join(prefix, f'share/man/man1/{name}.1')), True)
     units = os.path.join(prefix, 'lib/systemd/system')
     for name in sorted(os.listdir(units)):
@@ -247,6 +359,40 @@ def test_what_is_installed(program, broken, tmp_path):
     wants('its lines', re.findall(r'^gts_switch_(\w+)(?:\{.*\})? (\d+)$', said, re.M),
           [('show_status', '0'), ('accepted_total', '0'), ('journal_used_bytes', str(os.path.getsize(os.path.join(folder, 'journal.1')))), ('journal_limit_bytes', str(USUAL_LIMIT)),
            ('drawn_total', '0'), ('waiting', '0')])
+
+
+def scripts():
+    """The names of the scripts beside the switch."""
+    return sorted(name for name in os.listdir(os.path.join(TOP, 'packaging'))
+                  if name.startswith('gts-switch-') and os.access(os.path.join(TOP, 'packaging', name), os.X_OK))
+
+
+@pytest.mark.parametrize('name', scripts())
+def test_a_script_has_help_and_does_nothing_behind_other_words(name, broken, tmp_path):
+    """In a folder that has what the script would write over, over programs that take down that they were called."""
+    script, work, stubs = os.path.join(TOP, 'packaging', name), tmp_path / 'work', tmp_path / 'stubs'
+    for folder in (work, stubs):
+        folder.mkdir()
+    for stub in ('ssh', 'gts_switch', 'systemctl', 'journalctl'):
+        (stubs / stub).write_text(f'#!/bin/sh\necho {stub} "$@" >>{tmp_path}/called\n')
+        (stubs / stub).chmod(0o755)
+    for file in ('capture.gts', 'directory.toml', 'receipts', 'FILE'):
+        (work / file).write_text(f'{file}\n')
+    before, more = everything(str(work)), {**os.environ, 'PATH': f'{stubs}:{os.environ["PATH"]}'}
+    if broken == 'words':
+        script = str(stubs / name)
+        Folder('', str(stubs)).write(name, '#!/bin/sh\necho >"$1"\n')
+        os.chmod(script, 0o755)
+    for word in ('--help', '-h'):
+        status, said, line = run([script, word], str(work), env=more)
+        wants(f'{name} {word}', (status, name in said, line), (0, True, ''))
+        wants(f'{name} FILE {word}', run([script, 'FILE', word], str(work), env=more)[::2], (0, ''))
+    for words in (['--no-such-word'], ['FILE', '--no-such-word'], ['-n'], ['a'] * 9):
+        status, said, line = run([script, *words], str(work), env=more)
+        wants(f'{name} {" ".join(words)}', (status, said, bool(line)), (2, '', True))
+    wants('what was there', everything(str(work)), before)
+    wants('what was called', os.path.exists(tmp_path / 'called'), False)
+    wants('its manual page', f'{name} - ' in page_text(os.path.join(TOP, 'packaging', f'{name}.1')), True)
 
 
 def clean_root(at):

@@ -19,6 +19,10 @@ inspect_unread source station status od nd oc at h = record {
   keeps = unread_keeps source station status od nd oc at h;
 }
 
+pub uninspected : {S P : Type 0} (source : SourceMeanings S) (station : StationMeanings P) (od oc : S) (at : P)
+    → Inspects source station NoMemory (world od oc at) (world od oc at)
+uninspected source station od oc at = record { means = (refl, refl); keeps = grind (arith, common_steps) }
+
 -- ---- where there is one
 
 module _ {S P : Type 0} (source : SourceMeanings S) (station : StationMeanings P) (d : directories.Directory) (od nd oc : S) (old : P)
@@ -57,5 +61,5 @@ module _ {S P : Type 0} (source : SourceMeanings S) (station : StationMeanings P
         go : (r : Result (Unit {0}) Failed) → (station.observed → Tries (Says 0 text) r (station.calls old) (station.calls new))
             → HasCause r (station.say_faults old) (station.say_faults new)
             → InspectedAs source station (status_said r) (world od oc old) (world nd oc new)
-        go (Ok done) told cause = (λ observed. (d, h.read observed d refl), (refl, λ observed. (text, told observed)))
-        go (Err fault) told cause = (λ observed. (d, h.read observed d refl), (refl, (cause.failed refl, λ observed. (text, told observed))))
+        go (Ok done) told cause = (λ observed. (d, h.read observed d refl), refl, λ observed. (text, told observed))
+        go (Err fault) told cause = (λ observed. (d, h.read observed d refl), refl, cause.failed refl, λ observed. (text, told observed))

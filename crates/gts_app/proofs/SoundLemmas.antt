@@ -1,5 +1,5 @@
 -- A command that was done had nothing fail under it: from its status to how the call below it ended.
-use Rattle.gts_app.proofs.Cited.{◌≡◌, Result, Ok, Err, IsErrOf, OnOk, refl, subst, Done, Failed, Ghosts as StationMeanings, Handed, IsOldReadEnd, IsReadEnd, IsRefusal, OpenFault, Opens, ReadsDirectory, ReadsOldDirectory, SourceMeanings, Status, SwitchFault, refusal, status_compacted, status_said}
+use Rattle.gts_app.proofs.Cited.{◌≡◌, Result, Ok, Err, IsErrOf, OnOk, refl, subst, Done, Failed, Ghosts as StationMeanings, Handed, IsOldReadEnd, IsReadEnd, IsRefusal, OpenFault, Opens, ReadsDirectory, ReadsOldDirectory, SourceMeanings, Status, SwitchFault, Usage, refusal, status_compacted, status_said}
 use Rattle.gts_event.specs.declared.fault.SwitchFault.TheVariants as switch
 use Rattle.gts_record.specs.declared.fault.OpenFault.TheVariants as opening
 
@@ -7,6 +7,10 @@ use Rattle.gts_record.specs.declared.fault.OpenFault.TheVariants as opening
 
 pub unread : {S : Type 0} {source : SourceMeanings S} {status : Status} {old new : S} → ReadsDirectory source (Err status) old new → status ≡ Done → ⊥
 unread {status = status} h is = subst IsReadEnd is (h.ends status refl)
+
+-- nor were its words wrong
+pub not_misused : {S : Type 0} {source : SourceMeanings S} {status : Status} {old new : S} → ReadsDirectory source (Err status) old new → status ≡ Usage → ⊥
+not_misused {status = status} h is = subst IsReadEnd is (h.ends status refl)
 
 pub old_unread : {S : Type 0} {source : SourceMeanings S} {status : Status} {old new : S} → ReadsOldDirectory source (Err status) old new → status ≡ Done → ⊥
 old_unread {status = status} h is = subst IsOldReadEnd is (h.ends status refl)

@@ -1,6 +1,6 @@
 use Rattle.gts_app.proofs.Cited.{◌≡◌, ◌⊎◌, ◌∙◌, Err, refl, sym, ap, subst, Inspects, Status, world}
 use Rattle.gts_app.proofs.InspectLemmas.{inspect_unread, inspect_silent, inspect_said}
-use Rattle.gts_app.proofs.SoundLemmas.{said, on_ok}
+use Rattle.gts_app.proofs.SoundLemmas.{not_misused}
 use Rattle.gts_app.proofs.commands.inspect.inspect.Goals as goal
 
 pub returns-in-Err-clause-inspects : goal.returns-in-Err-clause-inspects
@@ -18,3 +18,6 @@ returns-clause-inspects g c =
     subst (λ (status : Status). Inspects g.S.Source g.P.Station status (world od c.args.world.now.capture c.args.world.now.station) (world nd c.args.world.now.capture c.say.new.self)) (sym c.status_said.ensures)
     (inspect_said g.S.Source g.P.Station c.in-Ok.file od nd c.args.world.now.capture c.args.world.now.station c.in-Ok.ensures
     c.say.new.self _ c.say.ensures.disk c.say.result c.say.ensures.told c.say.ensures.cause)
+
+pub returns-in-Err-clause-settled : goal.returns-in-Err-clause-settled
+returns-in-Err-clause-settled g c = λ none is. not_misused c.in-Err.ensures is
