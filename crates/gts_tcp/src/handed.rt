@@ -1,4 +1,4 @@
-ghost use Rattle.std.specs.Prelude.{◌≡◌, ℕ, ◌<◌, ◌+◌};
+ghost use Rattle.std.specs.Prelude.{◌≡◌, ℕ, ◌<◌, ◌+◌, ◌-◌};
 ghost use Rattle.gts_tcp.specs.Spans.{IsAmong};
 
 use crate::numbers::{Digits, number_in, place_up_to};
@@ -42,7 +42,9 @@ impl Course {
     }
 
     /// The first of the last draws that would begin a line now.
-    fn first_again(self) -> u64 {
+    fn first_again(self) -> u64
+        ensures { result ≡ self.next - self.again }
+    {
         self.next.saturating_sub(u64::from(self.again))
     }
 

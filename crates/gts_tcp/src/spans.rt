@@ -1,4 +1,4 @@
-ghost use Rattle.std.specs.Prelude.{◌≡◌, ℕ, ◌≤◌, ◌<◌, ◌↔◌, ◌⊎◌};
+ghost use Rattle.std.specs.Prelude.{◌≡◌, ℕ, ◌<◌, ◌⊎◌};
 ghost use Rattle.gts_tcp.specs.Spans.{IsAmong, IsIn, IsInSome};
 
 use crate::numbers::{Digits, Numbered, standing_at};
@@ -14,7 +14,8 @@ pub(crate) struct Span {
 impl Span {
     /// This place alone.
     fn of(place: u64) -> Span
-        ensures { (p : ℕ) → IsIn p result ↔ (p ≡ place) }
+        ensures place { IsIn place result }
+        ensures alone { (p : ℕ) → IsIn p result → p ≡ place }
     {
         Span {
             first: place,
@@ -98,7 +99,8 @@ impl Places {
 
     /// One place: a late one where it doesn't stand before `late`.
     pub(crate) fn of(place: u64, late: u64, digits: Digits) -> Places
-        ensures { (p : ℕ) → IsAmong p result ↔ (p ≡ place) }
+        ensures place { IsAmong place result }
+        ensures alone { (p : ℕ) → IsAmong p result → p ≡ place }
     {
         let span = Some(Span::of(place));
         if place < late {
@@ -142,15 +144,18 @@ impl Places {
         }
     }
 
-    /// The early ones that aren't among the late ones.
+    /// The early ones, but for those at the end that are among the late ones.
     fn apart(self) -> Option<Span>
         ensures { (p : ℕ) → IsInSome p self.early
             → IsInSome p result ⊎ IsInSome p self.late }
     {
-        match self.late {
-            Some(late) => before(self.early, late.first),
-            None => self.early,
+        let (Some(late), Some(early)) = (self.late, self.early) else {
+            return self.early;
+        };
+        if early.last > late.last {
+            return self.early;
         }
+        before(self.early, late.first)
     }
 
     /// How many these are.
