@@ -342,6 +342,8 @@ def test_what_is_installed(program, broken, tmp_path):
     rotation.write('gts-switch', '# changed\n')
     wants('the installation once more', run([os.path.join(TOP, 'packaging/install'), program], env=places)[::2], (0, ''))
     wants('what somebody changed there', rotation.read('gts-switch'), b'# changed\n')
+    consoles = Folder('', os.path.join(etc, 'prometheus/consoles'))
+    wants('the console', consoles.read('gts_switch.html'), Folder('', os.path.join(TOP, 'packaging')).read('console.html'))
     wants('it tells of neighbours on other hosts', 'IPAddressAllow' in said, True)
     text = page_text(os.path.join(prefix, 'share/man/man1/gts_switch.1'))
     check_page(text.replace('EXIT STATUS', '').split(' 0 All was done')[0] if broken == 'page' else text)
@@ -516,7 +518,7 @@ def test_the_package_in_a_clean_root(program, package, broken, tmp_path):
     status, said = dpkg(root, '--install', package)
     wants('the installation of the package', status, 0)
     wants('what was installed by hand is told', sorted(re.findall('^gts-switch: (.*) was installed by hand', said, re.M)), by_hand)
-    wants('all of it', len(by_hand), 13)
+    wants('all of it', len(by_hand), 14)
     begins = ['daemon-reload', 'try-restart gts_switch.service gts_switch-receipts.service gts_switch-files@*.service']
     wants('systemd is told of the units', told_systemd(), begins)
     shutil.rmtree(os.path.join(root, 'usr/local'))
@@ -534,10 +536,11 @@ def test_the_package_in_a_clean_root(program, package, broken, tmp_path):
     logs = os.stat(os.path.join(root, 'var/log/gts_switch'))
     wants('the folder of the logs', (oct(logs.st_mode & 0o7777), logs.st_uid, logs.st_gid), (oct(0o2750), int(user[0][2]), ADM))
     wants('what logrotate reads', os.path.exists(os.path.join(root, 'etc/logrotate.d/gts-switch')), True)
+    wants('what Prometheus shows', os.path.exists(os.path.join(root, 'etc/prometheus/consoles/gts_switch.html')), True)
     installed = Folder(os.path.join(root, 'usr/bin/gts_switch'), folder, DIRECTORY)
     wants('init of what was installed', installed.run('init'), (0, b'', ''))
     wants('the examples', sorted(os.listdir(os.path.join(root, 'usr/share/doc/gts-switch/examples'))),
-          ['alerts.yml', 'cluster', 'directory.toml', 'gts.conf', 'gts0.conf', 'gts0.nft', 'upload'])
+          ['alerts.yml', 'cluster', 'console.html', 'directory.toml', 'gts.conf', 'gts0.conf', 'gts0.nft', 'upload'])
     wants('those of two machines', sorted(os.listdir(os.path.join(root, 'usr/share/doc/gts-switch/examples/cluster'))),
           ['alerts.yml', 'cib.xml', 'corosync.conf', 'directory.toml', 'gts.res', 'gts_switch-address.service', 'gts_switch.conf', 'sbd',
            'timers', 'var-lib-gts_switch.mount'])
