@@ -3,17 +3,19 @@ use gts_event::{Outcome, SwitchFault};
 use gts_frame::{Decoder, Kind, write_frame};
 use gts_lock::Bell;
 use gts_memory::MemSink;
-use gts_sender::{SendEnd, send};
+use gts_sender::{OutgoingLine, SendEnd, send};
 use gts_traits::{Failed, FreeGate, Sink};
 use std::sync::Wait;
 use std::test::Fail;
 
 const FRAME: &[u8] = b"00000011AN\x01\r\r\n001\r\r\n\x03";
 
-/// A desk whose only circuit is owed its last draw, and that has no turn left for messages.
+/// A desk whose only circuit is owed its last draw, and that has no turn left for messages, nor to begin a line anew.
 #[derive(Drop)]
 struct OwedDesk {
     takes: u64,
+    /// With how many of the last draws its line was to be begun anew.
+    again: Option<u32>,
 }
 
 impl Desk for OwedDesk {
@@ -41,6 +43,12 @@ impl Desk for OwedDesk {
     }
 
     fn rest(&mut self) {}
+
+    #[tactic(auto, using(crate::proofs::OwedDeskLemmas::spent))]
+    fn begin_anew(&mut self, _c: u32, again: u32) -> Result<(), SwitchFault> {
+        self.again = Some(again);
+        Err(SwitchFault::Spent)
+    }
 
     #[tactic(auto, using(crate::proofs::OwedDeskLemmas::spent_on))]
     fn take_some(&mut self, c: u32, given: &mut Given) -> Result<bool, SwitchFault> {
@@ -85,7 +93,7 @@ impl Sink for NarrowSink {
         Ok(count)
     }
 
-    fn ready(&mut self) -> bool {
+    fn ready(&mut self, _again: u32) -> bool {
         false
     }
 
@@ -94,13 +102,56 @@ impl Sink for NarrowSink {
     }
 }
 
-/// How a sender ends that sends what is owed to this sink.
-fn end_of<R: AllocGlobal + Wait, K: Sink>(rt: &R, sink: &mut K) -> Result<SendEnd, Fail> {
-    let mut desk = OwedDesk { takes: 0 };
+/// A sink in memory whose connection is always a new one.
+#[derive(Drop)]
+struct NewSink {
+    sink: MemSink,
+    /// What it was told when it was last asked of its connection.
+    told: Option<u32>,
+}
+
+impl Sink for NewSink {
+    ghost observed = { ⊥ };
+
+    ghost written = { λ s. s.sink.written };
+
+    ghost faults = { λ s. s.sink.faults };
+
+    fn write(&mut self, piece: &[u8]) -> Result<usize, Failed> {
+        self.sink.write(piece)
+    }
+
+    fn ready(&mut self, again: u32) -> bool {
+        self.told = Some(again);
+        true
+    }
+
+    fn nothing_due(&mut self) -> Option<u32> {
+        None
+    }
+}
+
+/// How a sender ends at this desk whose line begins with so many of the last draws on each new connection of this sink.
+fn end_at<R: AllocGlobal + Wait, K: Sink>(
+    rt: &R,
+    desk: &mut OwedDesk,
+    again: u32,
+    sink: &mut K,
+) -> Result<SendEnd, Fail> {
     let mut given = Given::new(rt.alloc())?;
     let bell = Bell::new();
     bell.close();
-    Ok(send(rt, &mut desk, 0, sink, &mut given, &bell, &FreeGate))
+    let line = OutgoingLine { circuit: 0, again };
+    Ok(send(rt, desk, line, sink, &mut given, &bell, &FreeGate))
+}
+
+/// How a sender ends that sends what is owed to this sink.
+fn end_of<R: AllocGlobal + Wait, K: Sink>(rt: &R, sink: &mut K) -> Result<SendEnd, Fail> {
+    let mut desk = OwedDesk {
+        takes: 0,
+        again: None,
+    };
+    end_at(rt, &mut desk, 7, sink)
 }
 
 #[test]
@@ -131,5 +182,37 @@ fn a_frame_that_was_begun_is_not_begun_again(rt: HostRuntime) -> Result<(), Fail
     let end = end_of(&rt, &mut sink)?;
     assert!(rt; end == SendEnd::LineFault { index: 0 });
     assert!(rt; sink.bytes.as_slice() == &FRAME[..10]);
+    Ok(())
+}
+
+#[test]
+fn a_line_is_begun_anew_before_the_first_take(rt: HostRuntime) -> Result<(), Fail> {
+    let sink = MemSink::new(rt.alloc(), &[])?;
+    let mut sink = NewSink { sink, told: None };
+    let mut desk = OwedDesk {
+        takes: 0,
+        again: None,
+    };
+    let end = end_at(&rt, &mut desk, 7, &mut sink)?;
+    assert!(rt; end == SendEnd::Fault(SwitchFault::Spent));
+    assert!(rt; desk.again == Some(7));
+    assert!(rt; sink.told == Some(7));
+    assert!(rt; desk.takes == 0);
+    assert!(rt; sink.sink.bytes().len() == 0);
+    Ok(())
+}
+
+#[test]
+fn a_line_that_begins_with_none_is_not_begun_anew(rt: HostRuntime) -> Result<(), Fail> {
+    let sink = MemSink::new(rt.alloc(), &[])?;
+    let mut sink = NewSink { sink, told: None };
+    let mut desk = OwedDesk {
+        takes: 0,
+        again: None,
+    };
+    let end = end_at(&rt, &mut desk, 0, &mut sink)?;
+    assert!(rt; end == SendEnd::Quiet);
+    assert!(rt; desk.again == None);
+    assert!(rt; sink.sink.bytes() == FRAME);
     Ok(())
 }

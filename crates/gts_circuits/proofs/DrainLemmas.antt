@@ -1,5 +1,5 @@
 -- What is sent on one circuit behind the threads, and on all.
-use Rattle.gts_circuits.proofs.Cited.{◌≡◌, ◌≢◌, ◌⊎◌, inl, inr, ℕ, zero, suc, ◌+◌, ◌<◌, List, length, [], ◌∷◌, ◌++◌, refl, sym, ap, ◌∙◌, subst, arith, append_assoc, append-nil, some, some-injective, some-ne-none, get_elem?, AreDrained, Beginning, Drains, Engine, Entry, Ghosts as SinkMeanings, GivesNothing, HasLineCause, IsDrained, IsSent, LineStood, Outgoing, Quiet, SendEnd, SenderStands, Sends, SinkTook, Stands, StationMeanings, TakesAll, entries, entries_under, flat, fresh, sender_at, sender_name}
+use Rattle.gts_circuits.proofs.Cited.{◌≡◌, ◌≢◌, ◌⊎◌, inl, inr, ℕ, zero, suc, ◌+◌, ◌<◌, List, length, [], ◌∷◌, ◌++◌, refl, sym, ap, ◌∙◌, subst, arith, append_assoc, append-nil, some, some-injective, some-ne-none, get_elem?, AreDrained, Beginning, Drains, Engine, Entry, Ghosts as SinkMeanings, GivesNothing, HasLineCause, IsDrained, IsSent, LineStood, Outgoing, Quiet, SendEnd, SenderStands, Sends, SinkTook, Stands, StationMeanings, TakesAll, again_at, entries, entries_under, flat, fresh, sender_at, sender_name}
 use Rattle.gts_circuits.proofs.PastLemmas.{none_under, sender_differs, sender_more, sending_whole}
 use Rattle.gts_circuits.proofs.RestLemmas.{took_nothing, gives_still}
 
@@ -44,7 +44,7 @@ module _ {P K : Type 0} (station : StationMeanings P) (b : Beginning) (outgoing 
       let s : IsSent b threads past c sender.bytes Quiet = subst Q quiet sender.sent in
       let t = takes s.hall s.full past stands in
       let whole = sending_whole b s.hall threads past c s.full s.upto s.within s.turns sender.bytes s.sent.0 in
-      let sent : Sends c (fresh b s.hall n) (sender_at b s.hall c s.full (past ++ t.added)) (sender.bytes ++ bytes) now.end = t.sends (fresh b s.hall n) sender.bytes whole in
+      let sent : Sends c (again_at b c) (fresh b s.hall n) (sender_at b s.hall c s.full (past ++ t.added)) (sender.bytes ++ bytes) now.end = t.sends (fresh b s.hall n) sender.bytes whole in
       record {
         added = t.added;
         named = t.named;
@@ -64,7 +64,7 @@ module _ {P K : Type 0} (station : StationMeanings P) (b : Beginning) (outgoing 
           sound = λ stood. cause.sound stood ∙ sender.sound (let S : SendEnd → Type 0 = LineStood in subst S (sym quiet) tt);
         };
         nothing = λ e.
-            let R : SendEnd → Type 0 = λ end. Sends c (fresh b s.hall n) (sender_at b s.hall c s.full (past ++ t.added)) (sender.bytes ++ bytes) end in
+            let R : SendEnd → Type 0 = λ end. Sends c (again_at b c) (fresh b s.hall n) (sender_at b s.hall c s.full (past ++ t.added)) (sender.bytes ++ bytes) end in
             took_nothing b s.hall n (length (entries_under n (past ++ t.added))) s.full c (past ++ t.added) (subst R e sent).1;
       }
 

@@ -1,7 +1,7 @@
 -- Lines, circuit by circuit.
 use Rattle.gts_circuits.proofs.Cited.{◌≡◌, ◌≢◌, ◌⊎◌, inl, inr, ℕ, zero, suc, ◌+◌, ◌<◌, ◌≤◌, true, false, List, [], ◌∷◌, ◌++◌, length, refl, sym, ap, ◌∙◌, subst, arith, AreOpened, CircuitBytes, CountsSockets, Ghosts as SinkMeanings, HasParts, Incoming, IsClosed, IsOpened, IsSame, LinesSeen, Outgoing, PlaceSeen, SameElsewhere, Sockets, SourceMeanings, first_connection, some, some-injective, some-ne-none, get_elem?, common_steps}
 use Rattle.gts_circuits.proofs.DrainLemmas.{same_or_not}
-use Rattle.gts_circuits.proofs.PlacesLemmas.{at_less}
+use Rattle.gts_circuits.proofs.PlacesLemmas.{at_less, last_or_before}
 
 abbrev pub Elsewhere : ℕ → LinesSeen → LinesSeen → Type 0
 Elsewhere c m n = SameElsewhere c m.is_open m.faults m.place m.bytes n.is_open n.faults n.place n.bytes
@@ -11,12 +11,6 @@ same_itself m c = record { is_open = refl; faults = refl; place = refl; bytes = 
 
 pub same_still : (l m n : LinesSeen) (c k : ℕ) → Elsewhere c m n → k ≢ c → IsSame l m k → IsSame l n k
 same_still l m n c k e differ s = grind (arith, common_steps)
-
-pub last_or_before : {A : Type 0} (xs : List A) (x : A) (k : ℕ) (y : A) → get_elem? (xs ++ x ∷ []) k ≡ some y → (get_elem? xs k ≡ some y) ⊎ ((k ≡ length xs) × (x ≡ y))
-last_or_before [] x zero y at = inr (refl, some-injective x y at)
-last_or_before [] x (suc k) y at = absurd (some-ne-none y (sym at))
-last_or_before (z ∷ xs) x zero y at = inl at
-last_or_before (z ∷ xs) x (suc k) y at = elim (last_or_before xs x k y at) [ inl before ↦ inl before | inr last ↦ inr (ap suc last.0, last.1) ]
 
 module _ {S K : Type 0} (incoming : SourceMeanings S) (outgoing : SinkMeanings K)
     (asked : List PlaceSeen) (connections : ℕ) where

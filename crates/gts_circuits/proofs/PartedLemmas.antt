@@ -1,5 +1,5 @@
 -- The sockets of all lines, once the workers have ended.
-use Rattle.gts_circuits.proofs.Cited.{◌≡◌, ℕ, zero, suc, ◌+◌, ◌*◌, ◌<◌, ◌≤◌, true, false, List, [], ◌∷◌, ◌++◌, length, length-append, map, Option, Some, None, refl, sym, ap, ◌∙◌, subst, arith, append_assoc, append-nil, AllStand, AreOpened, Beginning, Begun, EndsWithin, Entry, Ghosts as SinkMeanings, GoesThrough, Incoming, IsOpened, Known, KnowsOwn, Line, LinesSeen, MOST_TURNS, Outgoing, Part, PassKeeps, Passes, PlaceSeen, ReceiverKeeps, ReceiverStands, Receives, Seen, SenderKeeps, SenderStands, Sends, Sockets, SourceMeanings, StartsWith, TableId, Tells, Work, Writes, all_of, behind, ends, entries_under, first_connection, flat, fresh, given_before, has_end, incoming_of, outgoing_of, receiver_name, receivers_of, seen_at, seen_by, sender_name, senders_of, sink_of, source_of, works_of, some, some-injective, some-ne-none, get_elem?}
+use Rattle.gts_circuits.proofs.Cited.{◌≡◌, ℕ, zero, suc, ◌+◌, ◌*◌, ◌<◌, ◌≤◌, true, false, List, [], ◌∷◌, ◌++◌, length, length-append, map, Option, Some, None, refl, sym, ap, ◌∙◌, subst, arith, append_assoc, append-nil, AllStand, AreOpened, Beginning, Begun, EndsWithin, Entry, Ghosts as SinkMeanings, GoesThrough, Incoming, IsOpened, Known, KnowsOwn, Line, LinesSeen, MOST_TURNS, Outgoing, Part, PassKeeps, Passes, PlaceSeen, ReceiverKeeps, ReceiverStands, Receives, Seen, SenderKeeps, SenderStands, Sends, Sockets, SourceMeanings, StartsWith, TableId, Tells, Work, Writes, again_at, all_of, behind, ends, entries_under, first_connection, flat, fresh, given_before, has_end, incoming_of, outgoing_of, receiver_name, receivers_of, seen_at, seen_by, sender_name, senders_of, sink_of, source_of, works_of, some, some-injective, some-ne-none, get_elem?}
 use Rattle.gts_circuits.specs.Cited.{Reads}
 use Rattle.gts_circuits.specs.Gathering.{Stands}
 use Rattle.gts_circuits.proofs.HousedLawLemmas.{starts_flat, under_flat}
@@ -146,7 +146,7 @@ module _ (b : Beginning) {S K : Type 0} (incoming : SourceMeanings S) (outgoing 
         },
       )
   receiver_line c s (lines.Incoming source many decoder None) p opened for_all front same full keeps ended = absurd (no_end ended)
-  receiver_line c s (lines.Outgoing sink given end) p opened for_all front same full keeps ended = absurd keeps.keeps
+  receiver_line c s (lines.Outgoing sink again given end) p opened for_all front same full keeps ended = absurd keeps.keeps
 
   pub record Sources (c : ℕ) (ss : List (Sockets S K)) (ls : List (Line S K)) : Type 0 where
     pub count : length (incoming_of ls) ≡ length ss
@@ -192,9 +192,10 @@ module _ (b : Beginning) {S K : Type 0} (incoming : SourceMeanings S) (outgoing 
       → entries_under p.name history ≡ entries_under p.name p.seen → (p.full ≡ true → length history ≡ MOST_TURNS)
       → PassKeeps b incoming outgoing c hall (Writes s.sink) l p → has_end l ≡ true
       → (y : Outgoing K) × (sink_of l ≡ y ∷ []) × (source_of l ≡ []) × OutStands c y
-  sender_line c s (lines.Outgoing sink given (Some end)) p opened front same full keeps ended =
-      let r : SenderKeeps outgoing c s.sink sink (fresh b hall (sender_name c)) (seen_by b p) end = keeps.keeps in
-      let R : Seen → Type 0 = λ d. Sends c (fresh b hall (sender_name c)) d r.bytes end in (
+  sender_line c s (lines.Outgoing sink again given (Some end)) p opened front same full keeps ended =
+      let K : ℕ → Type 0 = λ n. SenderKeeps outgoing c n s.sink sink (fresh b hall (sender_name c)) (seen_by b p) end in
+      let r : SenderKeeps outgoing c (again_at b c) s.sink sink (fresh b hall (sender_name c)) (seen_by b p) end = subst K keeps.keeps.0 keeps.keeps.1 in
+      let R : Seen → Type 0 = λ d. Sends c (again_at b c) (fresh b hall (sender_name c)) d r.bytes end in (
         record { sink = sink; frame = given.one; end = end },
         refl,
         refl,
@@ -213,7 +214,7 @@ module _ (b : Beginning) {S K : Type 0} (incoming : SourceMeanings S) (outgoing 
           sound = λ stood. r.cause.sound stood ∙ opened.sink_fresh;
         },
       )
-  sender_line c s (lines.Outgoing sink given None) p opened front same full keeps ended = absurd (no_end ended)
+  sender_line c s (lines.Outgoing sink again given None) p opened front same full keeps ended = absurd (no_end ended)
   sender_line c s (lines.Incoming source many decoder end) p opened front same full keeps ended = absurd keeps.keeps
 
   pub record Sinks (c : ℕ) (ss : List (Sockets S K)) (ls : List (Line S K)) : Type 0 where

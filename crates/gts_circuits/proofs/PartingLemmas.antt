@@ -7,8 +7,8 @@ module _ {S K : Type 0} where
   pub source_ended : (l : Line S K) (source : S) (connections : ℕ) (decoder : Decoding) (end : Option ReceiveEnd) → l ≡ lines.Incoming source connections decoder end → end ≡ None → has_end l ≡ true → ⊥
   source_ended l source connections decoder end is none ended = no_end (sym (ap has_end is ∙ ap is_some none) ∙ ended)
 
-  pub sink_ended : (l : Line S K) (sink : K) (given : Given) (end : Option SendEnd) → l ≡ lines.Outgoing sink given end → end ≡ None → has_end l ≡ true → ⊥
-  sink_ended l sink given end is none ended = no_end (sym (ap has_end is ∙ ap is_some none) ∙ ended)
+  pub sink_ended : (l : Line S K) (sink : K) (again : ℕ) (given : Given) (end : Option SendEnd) → l ≡ lines.Outgoing sink again given end → end ≡ None → has_end l ≡ true → ⊥
+  sink_ended l sink again given end is none ended = no_end (sym (ap has_end is ∙ ap is_some none) ∙ ended)
 
   module _ (l : Line S K) (source : S) (connections : ℕ) (decoder : Decoding) (end : Option ReceiveEnd) (e : ReceiveEnd) (is : l ≡ lines.Incoming source connections decoder end) (some : end ≡ Some e)
       (xs : List (Line S K)) where
@@ -24,12 +24,12 @@ module _ {S K : Type 0} where
         let none : outgoing_of (l ∷ []) ≡ [] = ap (λ (m : Line S K). outgoing_of (m ∷ [])) is in
         same ∙ sym (outgoing-append xs (l ∷ []) ∙ ap (λ (m : List (Outgoing K)). outgoing_of xs ++ m) none ∙ append-nil (outgoing_of xs))
 
-  module _ (l : Line S K) (sink : K) (given : Given) (end : Option SendEnd) (e : SendEnd) (is : l ≡ lines.Outgoing sink given end) (some : end ≡ Some e)
+  module _ (l : Line S K) (sink : K) (again : ℕ) (given : Given) (end : Option SendEnd) (e : SendEnd) (is : l ≡ lines.Outgoing sink again given end) (some : end ≡ Some e)
       (xs : List (Line S K)) where
     pub sink_more : (outs : List (Outgoing K)) → outs ≡ outgoing_of xs → outs ++ record { sink = sink; frame = given.one; end = e } ∷ [] ≡ outgoing_of (xs ++ l ∷ [])
     sink_more outs same =
         let one : outgoing_of (l ∷ []) ≡ record { sink = sink; frame = given.one; end = e } ∷ [] =
-        ap (λ (m : Line S K). outgoing_of (m ∷ [])) is ∙ ap (λ (f : Option SendEnd). outgoing_of {S = S} {K = K} (lines.Outgoing sink given f ∷ [])) some in
+        ap (λ (m : Line S K). outgoing_of (m ∷ [])) is ∙ ap (λ (f : Option SendEnd). outgoing_of {S = S} {K = K} (lines.Outgoing sink again given f ∷ [])) some in
         ap (λ (m : List (Outgoing K)). m ++ record { sink = sink; frame = given.one; end = e } ∷ []) same
         ∙ sym (outgoing-append xs (l ∷ []) ∙ ap (λ (m : List (Outgoing K)). outgoing_of xs ++ m) one)
 

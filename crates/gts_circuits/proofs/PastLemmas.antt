@@ -1,5 +1,5 @@
 -- Entries under a name, and what stays so of a worker that has ended while the history goes on.
-use Rattle.gts_circuits.proofs.Cited.{◌≡◌, ◌≢◌, ℕ, ◌≤◌, ◌==◌, suc, length, List, [], ◌∷◌, ◌++◌, Bool, true, false, cond, refl, sym, ap, ◌∙◌, arith, append_assoc, eqb-true, Beginning, Directory, EndsWithin, Entry, Ghosts as SinkMeanings, IsReceived, IsSent, Outgoing, Part, ReceiveEnd, SendEnd, SenderStands, Sending, State, TableId, after_all, after_entry, entries, entries_under, frame_of, frames, fresh, receiver_name, seen_at, sender_at, sender_name, begun, append-nil, append_cancel_left, some, get_elem?, common_steps}
+use Rattle.gts_circuits.proofs.Cited.{◌≡◌, ◌≢◌, ℕ, ◌≤◌, ◌==◌, suc, length, List, [], ◌∷◌, ◌++◌, Bool, true, false, cond, refl, sym, ap, ◌∙◌, arith, append_assoc, eqb-true, Beginning, Directory, EndsWithin, Entry, Ghosts as SinkMeanings, IsReceived, IsSent, Outgoing, Part, ReceiveEnd, SendEnd, SenderStands, Sending, State, TableId, after_all, again_at, after_entry, entries, entries_under, frame_of, frames, fresh, receiver_name, seen_at, sender_at, sender_name, begun, append-nil, append_cancel_left, some, get_elem?, common_steps}
 use Rattle.gts_circuits.proofs.FlatLemmas.{under-append}
 
 abbrev History : Type 0
@@ -100,11 +100,12 @@ module _ (b : Beginning) (hall : TableId) (threads : List (ℕ × List Entry)) (
       ∙ ap (λ (l : List ℕ). frames d t n upto ++ l) (frames_none d (after_all d t (entries upto)) n w.front.0 none_behind)
       ∙ append-nil (frames d t n upto)
 
-  pub sending_whole : (turns : ℕ) (bytes : List ℕ) → Sending c (fresh b hall (sender_name c)) (seen_at b hall (sender_name c) turns full upto) bytes
-      → Sending c (fresh b hall (sender_name c)) (sender_at b hall c full history) bytes
+  pub sending_whole : (turns : ℕ) (bytes : List ℕ) → Sending c (again_at b c) (fresh b hall (sender_name c)) (seen_at b hall (sender_name c) turns full upto) bytes
+      → Sending c (again_at b c) (fresh b hall (sender_name c)) (sender_at b hall c full history) bytes
   sending_whole turns bytes s = record {
     desk = record { hall = refl; directory = refl; start = refl; used = refl; makes_room = refl; name = refl; later = (history, refl) };
-    count = s.count;
+    entries = s.entries;
+    sent = s.sent;
     added = w.own ∙ s.added;
     written = frames_whole ∙ s.written;
   }

@@ -1,5 +1,5 @@
 -- Takes behind the threads, as those of the sender of their circuit.
-use Rattle.gts_circuits.proofs.Cited.{◌≡◌, ℕ, zero, suc, List, length, [], ◌∷◌, ◌++◌, Bool, Some, Result, Ok, Err, refl, sym, ap, ◌∙◌, subst, arith, append_assoc, length-append, append-nil, some-injective, some-ne-none, Answers, AreTakes, Beginning, DiskFault, Engine, Entry, Full, IsTake, Known, LeavesFrame, Never, NoMemory, Outcome, SayFault, Seen, SendEnd, Sending, Spent, Stands, StationMeanings, Stopped, SwitchFault, TableId, Taken, TakesOnce, Tried, Turns, WroteGiven, after_adding, all_of, entries, entries_under, entry_by, flat, seen_at, seen_by, sender_at, sender_name, Takes, TakesSome, given, failed, under_all}
+use Rattle.gts_circuits.proofs.Cited.{◌≡◌, ℕ, zero, suc, List, length, [], ◌∷◌, ◌++◌, Bool, Some, Result, Ok, Err, refl, sym, ap, ◌∙◌, subst, arith, append_assoc, length-append, append-nil, some-injective, some-ne-none, Answers, AreTakes, Beginning, DiskFault, Engine, Entry, Full, IsTake, Known, LeavesFrame, Never, NoMemory, Outcome, SayFault, Seen, SendEnd, Sending, Spent, Stands, StationMeanings, Stopped, SwitchFault, TableId, Taken, TakesOnce, Tried, Turns, WroteGiven, after_adding, again_at, all_of, entries, entries_under, entry_by, flat, seen_at, seen_by, sender_at, sender_name, Takes, TakesSome, given, failed, under_all}
 use Rattle.gts_sender.specs.declared.end.SendEnd.TheVariants.{Fault}
 use Rattle.gts_circuits.proofs.HousedLawLemmas as desk
 use Rattle.gts_circuits.proofs.HousedLawLemmas.{entries_flat, flat_one}
@@ -86,7 +86,7 @@ module _ {P : Type 0} (station : StationMeanings P) (b : Beginning) (c : ℕ) wh
           subst (λ (x : Seen). A x at_last) before (subst (A (seen_by b pass)) after so)
 
       pub taken : (Comes : Seen → Seen → List ℕ → Type 0) (bytes : List ℕ)
-          → ((first : Seen) (sent : List ℕ) → Sending c first at_first sent → Comes first at_last (sent ++ bytes))
+          → ((first : Seen) (sent : List ℕ) → Sending c (again_at b c) first at_first sent → Comes first at_last (sent ++ bytes))
           → Takes station b Comes c hall full past bytes new
       taken Comes bytes sends = record {
         added = (sender_name c, entry) ∷ [];
@@ -102,8 +102,8 @@ module _ {P : Type 0} (station : StationMeanings P) (b : Beginning) (c : ℕ) wh
         → Never station b SayFault (Err f) old → Never station b NoMemory (Err f) old
         → TakesOnce station b c [] (Err (Fault f)) old new
     once_failed f turns silent memory hall full past stands =
-        taken out (Err f) old new turns hall full past stands (λ first seen sent. Tried c first seen sent (Err (Fault f))) []
-        (failed c (sender_at b hall c full past) (at_last out (Err f) old new turns hall full past stands) out f
+        taken out (Err f) old new turns hall full past stands (λ first seen sent. Tried c (again_at b c) first seen sent (Err (Fault f))) []
+        (failed c (again_at b c) (sender_at b hall c full past) (at_last out (Err f) old new turns hall full past stands) out f
         (answered out (Err f) old new turns hall full past stands)
         (λ is. silent (entries past) stands (ap Err is)) (λ is. memory (entries past) stands (ap Err is)))
 
@@ -111,8 +111,8 @@ module _ {P : Type 0} (station : StationMeanings P) (b : Beginning) (c : ℕ) wh
         → Turns station b (Taken c) (LeavesFrame b.origin.directory c out) (Ok o) old new
         → WroteGiven o out bytes result → TakesOnce station b c bytes result old new
     once_given o bytes result turns wrote hall full past stands =
-        taken out (Ok o) old new turns hall full past stands (λ first seen sent. Tried c first seen sent result) bytes
-        (given c (sender_at b hall c full past) (at_last out (Ok o) old new turns hall full past stands) out o bytes result
+        taken out (Ok o) old new turns hall full past stands (λ first seen sent. Tried c (again_at b c) first seen sent result) bytes
+        (given c (again_at b c) (sender_at b hall c full past) (at_last out (Ok o) old new turns hall full past stands) out o bytes result
         (answered out (Ok o) old new turns hall full past stands) wrote)
 
   -- ---- takes one after another
@@ -123,7 +123,7 @@ module _ {P : Type 0} (station : StationMeanings P) (b : Beginning) (c : ℕ) wh
     named = λ k x at. absurd (some-ne-none x (sym at));
     stands = let S : List (ℕ × Entry) → Type 0 = λ h. Stands station b (entries h) old in subst S (sym (append-nil past)) stands;
     sends = λ first sent so_far.
-        let S : List (ℕ × Entry) → List ℕ → Type 0 = λ h l. Sending c first (sender_at b hall c full h) l in
+        let S : List (ℕ × Entry) → List ℕ → Type 0 = λ h l. Sending c (again_at b c) first (sender_at b hall c full h) l in
         subst (λ (h : List (ℕ × Entry)). S h (sent ++ [])) (sym (append-nil past)) (subst (S past) (sym (append-nil sent)) so_far);
   }
 

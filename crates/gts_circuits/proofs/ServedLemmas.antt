@@ -1,8 +1,9 @@
 -- What a run of all circuits leaves, of what opening, the threads, the takes behind them and closing leave.
-use Rattle.gts_circuits.proofs.Cited.{◌≡◌, ◌⊎◌, inl, inr, ℕ, zero, suc, ◌+◌, ◌-◌, ◌*◌, ◌<◌, ◌≤◌, ◌==◌, Bool, true, false, not, cond, List, [], ◌∷◌, ◌++◌, length, map, length-append, refl, sym, ap, ◌∙◌, subst, arith, cases_lt, append_cancel_right, AreOpened, AreOver, Beginning, Begun, Circuit, Directory, Engine, Entry, Event, Ghosts as SinkMeanings, HasNoPorts, HasPlace, HavePassed, Incoming, IsAtRest, IsClosed, IsDoneIn, IsFinished, IsHandedBack, IsOpened, IsOver, IsReceived, IsSame, IsSent, IsShutIfClosed, Line, LineStood, LinesSeen, Long, LostSync, MOST_TURNS, NamesAreUpTo, Outgoing, Part, PlaceSeen, ReceiveEnd, Receiver, ReceiverStands, Rose, SendEnd, Sender, ServeEnd, Serves, ServesCircuit, Sockets, SourceFault, SourceMeanings, StationMeanings, StopsAtOpening, Taken, Tells, TookFrames, WentThroughAll, all_done, ends_of, entries, entries_under, events_over, filter, first_fault, flat, goes_on, incoming_of, is_try, on_circuit, outgoing_of, place_of, receiver_first, receiver_name, sender_first, sender_name, state_at, takes, waiting, Ended, Fault, some, some-injective, some-ne-none, get_elem?, common_steps}
+use Rattle.gts_circuits.proofs.Cited.{◌≡◌, ◌⊎◌, inl, inr, ℕ, zero, suc, ◌+◌, ◌-◌, ◌*◌, ◌<◌, ◌≤◌, ◌==◌, Bool, true, false, not, cond, List, [], ◌∷◌, ◌++◌, length, map, length-append, refl, sym, ap, ◌∙◌, subst, arith, cases_lt, append_cancel_right, Anew, AreOpened, AreOver, Beginning, Begun, Circuit, Directory, Engine, Entry, Event, Ghosts as SinkMeanings, HasNoPorts, HasPlace, HavePassed, Incoming, IsAtRest, IsClosed, IsDoneIn, IsFinished, IsHandedBack, IsOpened, IsOver, IsReceived, IsSame, IsSent, IsShutIfClosed, Line, LineStood, LinesSeen, Long, LostSync, MOST_TURNS, NamesAreUpTo, Outgoing, Part, PlaceSeen, ReceiveEnd, Receiver, ReceiverStands, Rose, SendEnd, Sender, ServeEnd, Serves, ServesCircuit, Sockets, SourceFault, SourceMeanings, StationMeanings, StopsAtOpening, Taken, Tells, TookFrames, WentThroughAll, again_at, all_done, ends_of, entries, entries_under, events_over, filter, first_fault, flat, goes_on, incoming_of, is_try, on_circuit, outgoing_of, place_of, receiver_first, receiver_name, sender_first, sender_name, state_at, waiting, Ended, Fault, some, some-injective, some-ne-none, get_elem?, common_steps}
 use Rattle.std.proofs.lemmas.Bool.{eq-eqb}
 use Rattle.gts_circuits.specs.declared.service.end.ServeEnd.TheVariants.{Done}
 use Rattle.gts_receiver.specs.Cited.{settled}
+use Rattle.gts_sender.specs.Cited.{AreSent}
 use Rattle.gts_event.specs.declared.event.Entry.TheVariants as of_entry
 use Rattle.gts_sender.specs.declared.end.SendEnd.TheVariants as sending
 use Rattle.gts_circuits.proofs.PlacesLemmas.{at_less, in_middle, there, halved}
@@ -91,10 +92,13 @@ done_events [] k e at = absurd (some-ne-none e (sym at))
 done_events (x ∷ xs) zero e at = (x, sym (some-injective (of_entry.Done x) e at))
 done_events (x ∷ xs) (suc k) e at = done_events xs k e at
 
-done_takes : (c n : ℕ) → AllDone (takes c n)
-done_takes c zero k e at = absurd (some-ne-none e (sym at))
-done_takes c (suc n) zero e at = (Taken c, sym (some-injective (of_entry.Done (Taken c)) e at))
-done_takes c (suc n) (suc k) e at = done_takes c n k e at
+done_sent : (c again : ℕ) (es : List Entry) → AreSent c again es → AllDone es
+done_sent c again [] sent k e at = absurd (some-ne-none e (sym at))
+done_sent c again (x ∷ xs) sent zero e at = elim sent.0 as (λ _. (event : Event) × (e ≡ of_entry.Done event)) [
+  | inl take ↦ (Taken c, sym (some-injective x e at) ∙ take)
+  | inr begun ↦ (Anew c again, sym (some-injective x e at) ∙ begun)
+]
+done_sent c again (x ∷ xs) sent (suc k) e at = done_sent c again xs sent.1 k e at
 
 -- an entry stands under its name
 under_has : (h : List (ℕ × Entry)) (k : ℕ) (x : ℕ × Entry) (name : ℕ) → get_elem? h k ≡ some x → x.0 ≡ name
@@ -330,7 +334,7 @@ module _ {S K : Type 0} (incoming : SourceMeanings S) (outgoing : SinkMeanings K
           let I : SendEnd → Type 0 = λ e. IsSent b threads whole c bytes e in
           let q : IsSent b threads whole c bytes sending.Quiet = subst I quiet i in
           let D : List Entry → Type 0 = AllDone in
-          done_in (goes_on connections) (entries_under (sender_name c) whole) (subst D (sym (q.within.own ∙ q.sent.0.added)) (done_takes c q.sent.0.count))
+          done_in (goes_on connections) (entries_under (sender_name c) whole) (subst D (sym (q.within.own ∙ q.sent.0.added)) (done_sent c (again_at b c) q.sent.0.entries q.sent.0.sent))
 
       both_at : (c : ℕ) → c < length sockets → (x : Incoming S) × (y : Outgoing K) × (get_elem? ins c ≡ some x) × (get_elem? f.sinks c ≡ some y) × WentThroughAll x.end × (y.end ≡ sending.Quiet)
       both_at c less =

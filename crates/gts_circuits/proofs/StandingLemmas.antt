@@ -123,7 +123,7 @@ only_stops_at : (result : Result Outcome SwitchFault) (stopped : Option Device)
     → ((by : Device) → stopped ≡ Some by → result ≡ Err (Stopped by)) → (stopped ≡ None → IsOk result)
     → IfErr result (λ fault. (by : Device) × (fault ≡ Stopped by))
 only_stops_at (Ok o) stopped is none = tt
-only_stops_at (Err fault) None is none = absurd (none refl)
+only_stops_at (Err fault) None is none = absurd (let e = none refl in cc e)
 only_stops_at (Err fault) (Some by) is none = (by, let e = is by refl in cc e)
 
 module _ {P : Type 0} (station : StationMeanings P) (b : Beginning) where

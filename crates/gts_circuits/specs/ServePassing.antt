@@ -11,7 +11,7 @@ module _ {S K : Type 0} where
   abbrev pub source_of : line.Line S K → List (Incoming S)
   source_of (lines.Incoming source connections decoder (Some end)) = record { source = source; end = end } ∷ []
   source_of (lines.Incoming source connections decoder None) = []
-  source_of (lines.Outgoing sink given end) = []
+  source_of (lines.Outgoing sink again given end) = []
 
   -- the sources of lines
   abbrev pub incoming_of : List (line.Line S K) → List (Incoming S)
@@ -21,8 +21,8 @@ module _ {S K : Type 0} where
   -- the sink of a line
   abbrev pub sink_of : line.Line S K → List (Outgoing K)
   sink_of (lines.Incoming source connections decoder end) = []
-  sink_of (lines.Outgoing sink given (Some end)) = record { sink = sink; frame = given.one; end = end } ∷ []
-  sink_of (lines.Outgoing sink given None) = []
+  sink_of (lines.Outgoing sink again given (Some end)) = record { sink = sink; frame = given.one; end = end } ∷ []
+  sink_of (lines.Outgoing sink again given None) = []
 
   -- the sinks of lines
   abbrev pub outgoing_of : List (line.Line S K) → List (Outgoing K)

@@ -41,11 +41,11 @@ is_some None = false
 
 abbrev pub has_end : {S K : Type 0} → Line S K → Bool
 has_end (Incoming source connections decoder end) = is_some end
-has_end (Outgoing sink given end) = is_some end
+has_end (Outgoing sink again given end) = is_some end
 
 abbrev pub socket_of : {S K : Type 0} → Line S K → Socket S K
 socket_of (Incoming source connections decoder end) = Reads connections source
-socket_of (Outgoing sink given end) = Writes sink
+socket_of (Outgoing sink again given end) = Writes sink
 
 -- the names of the passes of a circuit's receiver and sender
 abbrev pub receiver_name : ℕ → ℕ
@@ -99,10 +99,11 @@ module _ (b : Beginning) {S K : Type 0} (incoming : SourceMeanings S) (outgoing 
       (now ≡ first) × (connections ≡ many) × (1 ≤ many) × (seen ≡ fresh b hall (receiver_name c))
   LineKeeps c hall (Reads many first) (Incoming now connections decoder (Some end)) seen =
       ReceiverKeeps incoming c many first now (fresh b hall (receiver_name c)) seen end
-  LineKeeps c hall (Writes first) (Outgoing now given None) seen = (now ≡ first) × (seen ≡ fresh b hall (sender_name c))
-  LineKeeps c hall (Writes first) (Outgoing now given (Some end)) seen =
-      SenderKeeps outgoing c (again_at b c) first now (fresh b hall (sender_name c)) seen end
-  LineKeeps c hall (Reads many first) (Outgoing now given end) seen = ⊥
+  LineKeeps c hall (Writes first) (Outgoing now again given None) seen =
+      (now ≡ first) × (again ≡ again_at b c) × (seen ≡ fresh b hall (sender_name c))
+  LineKeeps c hall (Writes first) (Outgoing now again given (Some end)) seen =
+      (again ≡ again_at b c) × SenderKeeps outgoing c again first now (fresh b hall (sender_name c)) seen end
+  LineKeeps c hall (Reads many first) (Outgoing now again given end) seen = ⊥
   LineKeeps c hall (Writes first) (Incoming now connections decoder end) seen = ⊥
 
   -- the pass is one of this hall, has the name of this role, knows its own entries, and fits the line

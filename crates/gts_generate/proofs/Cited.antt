@@ -21,5 +21,5 @@ pub use Rattle.gts_event.specs.Said.{frame_of_draw}
 pub use Rattle.gts_frame.proofs.LawLemmas.{IsFramed-message_of}
 pub use Rattle.gts_message.proofs.LawLemmas.{split_takes}
 pub use Rattle.gts_traits.proofs.LawLemmas.{channel_bytes-append, channel_bytes-on, channel_bytes-on_other}
-pub use Rattle.gts_generate.specs.Cited.{Accepted, AllByRecursion, An, AreStepsOf, Asked, BeginsDay, Bi, Broken, Bulletin, CHANNELS, Call, CaptureKind, Choice, Circuit, CircuitNeed, CircuitRow, CircuitState, Compact, Connections, Cuts, Device, Did, DirFault, Directory, Disk, Doing, Done, Doubt, Drain, Draw, Draws, Duplicate, EOL, ETX, EachOwedFew, EachRoutedOnce, EndHead, Ends, EndsDay, EndsWithEtx, Engine, Entry, Event, Feed, FeedHead, Files, Frame, FrameField, Fx, HasFailed, HasFrame, HasRead, HasSaid, HeadingFields, Heard, Holds, Holds256, Idle, IsCut, IsDone, IsFramed, IsFullOn, IsGap, IsHeadOf, IsHeading, IsHeld, IsMessage, IsOrdered, IsPiece, IsStart, IsWhole, Item, Journaled, KeepAlive, Keeps, Kind, LONGEST_CAPTURE, LineLost, Lost, Many, Message, MessageField, MessageParts, Need, Needs, Noted, Nothing, Nothing_waits, ObservedOrigin, One, Outcome, Outside, Part, Piece, Reading, Refusal, Refused, Reopen, Repeats, ReplayEnd, Request, RequestField, Resend, Rest, Restart, Restarted, Rows, RuleRow, Say, SayMode, Says, StandsFor, State, Station, StationInMemory, Step, StopsAtFault, Syncs, Take, Taken, Traffic, Two, Unsaid, Version, WasRead, Writes, after, after_all, after_entry, after_heard, after_step, after_take, all_done, all_owed_last, answer, answer_to, are_capitals, begun, body, bulletin_at, calls_of, calls_on, capture, capture_from, channel_bytes, checked, choice, choice_of, circuit_need, circuit_row, compacted_at, compactions, compactions_from, connection, count_at, day_origin, day_summary, digit_glyph, digits_on, digits_onto, directory, drains, draws, draws_in, draws_of, empty, encode_lower, ending, entries, entries_from, entries_of_step, enumerate_from, events_added, events_of, file_opens, files_open, find, fits, frame, frames_in, frames_said, full, group_text, has, head_of, head_text, heading_at, heading_of_message, history, idle, is_accepted, is_ascii_uppercase, is_circuit, is_draw, is_duplicate, is_granted, is_group, is_here, is_kept, is_resend, is_sound, journal_text, keeps_one, kept_call, kept_on, letters, level_rows, line, lines_from, list_all, localhost, lost_text, message, message_of, named, need, need_of, new_journal, next, no_bytes, no_heading, no_rows, nothing, numbered_frame, on, on_circuit, opened_of, opens, origin_behind, origin_of, outcome, outcome_of, outcomes, outcomes_on, outside_of, owed_again, owed_last, owes_kept, piece_text, pieces_from, pieces_left, places, range_with_len, readable, receipt_text, receipts_of, refusal_text, report, request, restarted, rows, rule_row, said, said_by, saying_of, sayings, seen, settled, shown, slice_index_or, split_at, spoken, spoken_of, start, state_after, state_at, step_text, steps, steps_of, sum_by, summary_lines, summary_text, switch_meanings, takes_of_drain, then_number, turn, unchanged, used_at, verdict, waiting, with_drawn, with_repeated, with_routed, zip}
+pub use Rattle.gts_generate.specs.Cited.{Accepted, AllByRecursion, An, Anew, AreStepsOf, Asked, BeginsDay, Bi, Broken, Bulletin, CHANNELS, Call, CaptureKind, Choice, Circuit, CircuitNeed, CircuitRow, CircuitState, Compact, Connections, Cuts, Device, Did, DirFault, Directory, Disk, Doing, Done, Doubt, Drain, Draw, Draws, Duplicate, EOL, ETX, EachOwedFew, EachRoutedOnce, EndHead, Ends, EndsDay, EndsWithEtx, Engine, Entry, Event, Feed, FeedHead, Files, Frame, FrameField, Fx, HasFailed, HasFrame, HasRead, HasSaid, HeadingFields, Heard, Holds, Holds256, Idle, IsCut, IsDone, IsFramed, IsFullOn, IsGap, IsHeadOf, IsHeading, IsHeld, IsMessage, IsOrdered, IsPiece, IsStart, IsWhole, Item, Journaled, KeepAlive, Keeps, Kind, LONGEST_CAPTURE, LineLost, Lost, Many, Message, MessageField, MessageParts, Need, Needs, Noted, Nothing, Nothing_waits, ObservedOrigin, One, Outcome, Outside, Part, Piece, Reading, Refusal, Refused, Reopen, Repeats, ReplayEnd, Request, RequestField, Resend, Rest, Restart, Restarted, Rows, RuleRow, Say, SayMode, Says, StandsFor, State, Station, StationInMemory, Step, StopsAtFault, Syncs, Take, Taken, Traffic, Two, Unsaid, Version, WasRead, Writes, after, after_all, after_entry, after_heard, after_step, after_take, all_done, all_owed_last, answer, answer_to, are_capitals, begins_with, begun, body, bulletin_at, calls_of, calls_on, capture, capture_from, channel_bytes, checked, choice, choice_of, circuit_need, circuit_row, compacted_at, compactions, compactions_from, connection, count_at, day_origin, day_summary, digit_glyph, digits_on, digits_onto, directory, drains, draws, draws_in, draws_of, empty, encode_lower, ending, entries, entries_from, entries_of_step, enumerate_from, events_added, events_of, file_opens, files_open, find, fits, frame, frames_in, frames_said, full, group_text, has, head_of, head_text, heading_at, heading_of_message, history, idle, is_accepted, is_ascii_uppercase, is_circuit, is_draw, is_duplicate, is_granted, is_group, is_here, is_kept, is_resend, is_sound, journal_text, keeps_one, kept_call, kept_on, letters, level_rows, line, lines_from, list_all, localhost, lost_text, message, message_of, named, need, need_of, new_journal, next, no_bytes, no_heading, no_rows, nothing, numbered_frame, on, on_circuit, opened_of, opens, origin_behind, origin_of, outcome, outcome_of, outcomes, outcomes_on, outside_of, owed_again, owed_last, owes_kept, piece_text, pieces_from, pieces_left, places, range_with_len, readable, receipt_text, receipts_of, refusal_text, report, request, restarted, rows, rule_row, said, said_by, saying_of, sayings, seen, settled, shown, slice_index_or, split_at, spoken, spoken_of, start, state_after, state_at, step_text, steps, steps_of, sum_by, summary_lines, summary_text, switch_meanings, takes_of_drain, then_number, turn, unchanged, used_at, verdict, waiting, with_anew, with_drawn, with_repeated, with_routed, zip}
 unfoldable pub use Rattle.gts_generate.specs.Cited.{dec, heading_text}

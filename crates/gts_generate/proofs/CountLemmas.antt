@@ -1,5 +1,5 @@
 -- What was accepted and drawn, event by event.
-use Rattle.gts_generate.proofs.Cited.{◌≡◌, ℕ, ◌+◌, ◌<◌, ◌≤◌, Bool, true, false, cond, Option, Some, None, Result, Ok, Err, List, [], ◌∷◌, length, get_or, map, refl, arith, count_by, sum, Accepted, Asked, Bulletin, Choice, Circuit, CircuitNeed, CircuitState, Directory, Done, Doubt, Draw, Draws, Duplicate, Entry, Event, Heard, Idle, IsOrdered, Item, Kind, LineLost, Lost, Message, MessageField, MessageParts, Nothing, Nothing_waits, Outcome, Refused, Repeats, RequestField, Resend, Restarted, State, Taken, Unsaid, after, after_all, after_entry, after_heard, after_take, all_owed_last, answer, answer_to, choice, circuit_need, draws, draws_in, enumerate_from, has, heading_of_message, idle, is_accepted, is_draw, keeps_one, named, need, on_circuit, outcome, outcome_of, outcomes, owed_again, owed_last, places, split_at, sum_by, verdict, with_repeated, with_routed, cases_lt, set_past, get_or_past, length-append, sum_by-append, sum_by-cons, sum_by-set, set, nothing_there, ordered-all, common_steps}
+use Rattle.gts_generate.proofs.Cited.{◌≡◌, Anew, begins_with, with_anew, ℕ, ◌+◌, ◌<◌, ◌≤◌, Bool, true, false, cond, Option, Some, None, Result, Ok, Err, List, [], ◌∷◌, length, get_or, map, refl, arith, count_by, sum, Accepted, Asked, Bulletin, Choice, Circuit, CircuitNeed, CircuitState, Directory, Done, Doubt, Draw, Draws, Duplicate, Entry, Event, Heard, Idle, IsOrdered, Item, Kind, LineLost, Lost, Message, MessageField, MessageParts, Nothing, Nothing_waits, Outcome, Refused, Repeats, RequestField, Resend, Restarted, State, Taken, Unsaid, after, after_all, after_entry, after_heard, after_take, all_owed_last, answer, answer_to, choice, circuit_need, draws, draws_in, enumerate_from, has, heading_of_message, idle, is_accepted, is_draw, keeps_one, named, need, on_circuit, outcome, outcome_of, outcomes, owed_again, owed_last, places, split_at, sum_by, verdict, with_repeated, with_routed, cases_lt, set_past, get_or_past, length-append, sum_by-append, sum_by-cons, sum_by-set, set, nothing_there, ordered-all, common_steps}
 use Rattle.std.proofs.Common.{zip}
 use Rattle.gts_generate.proofs.ReceiptLemmas.{take_outcome}
 
@@ -18,6 +18,7 @@ accepted-event : (d : Directory) (s : State) (event : Event) → (after d s even
 accepted-event d s (Heard c kind message) = accepted-heard d s c kind message (outcome d s (Heard c kind message))
 accepted-event d s (Lost c field) = omega arith
 accepted-event d s (Taken c) = accepted-take s c (choice d s c)
+accepted-event d s (Anew c again) = omega arith
 
 accepted-entry : (d : Directory) (s : State) (entry : Entry) → (after_entry d s entry).count ≡ s.count + count_by is_accepted (outcome_of d s entry)
 accepted-entry d s (Done event) = accepted-event d s event
@@ -138,6 +139,7 @@ drawn-event : (d : Directory) (s : State) (event : Event)
 drawn-event d s (Heard c kind message) = grind (arith, common_steps, drawn-heard, heard-event)
 drawn-event d s (Lost c field) = omega arith
 drawn-event d s (Taken c) = drawn-take d s c (choice d s c) refl
+drawn-event d s (Anew c again) = omega (arith, drawn-kept s.circuits c (with_anew (begins_with d s c again) (on_circuit s c)) refl)
 
 drawn-entry : (d : Directory) (s : State) (entry : Entry)
     → drawn_in (after_entry d s entry).circuits ≡ drawn_in s.circuits + count_by is_draw (outcome_of d s entry)

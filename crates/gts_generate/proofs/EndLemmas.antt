@@ -1,5 +1,5 @@
 -- Each take that gives something says one frame, where each bulletin has one end.
-use Rattle.gts_generate.proofs.Cited.{◌≡◌, ℕ, suc, zero, ◌+◌, ◌<◌, ◌≤◌, Bool, true, false, cond, ◌==◌, nat_le, nat_lt, Option, Some, None, List, [], ◌∷◌, ◌++◌, length, get_or, map, inl, inr, refl, sym, ap, subst, ◌∙◌, arith, count_by, Accepted, Asked, Bulletin, Choice, Circuit, CircuitState, Directory, Done, Doubt, Draw, Draws, Duplicate, ETX, Entry, Event, HasFrame, Heard, Idle, IsGap, IsHeld, IsMessage, IsOrdered, Kind, LineLost, Lost, Nothing, Nothing_waits, Outcome, Refused, Repeats, Resend, Restarted, State, Taken, Unsaid, WasRead, after, after_entry, after_heard, after_take, bulletin_at, choice, choice_of, circuit_need, dec, digits_on, draws, find, frames_in, frames_said, idle, is_circuit, is_draw, is_here, is_kept, is_resend, keeps_one, kept_on, list_all, next, numbered_frame, on, on_circuit, outcome, outcome_of, outcomes, owes_kept, said, spoken, spoken_of, with_drawn, with_repeated, zip, frame_of_draw, body_of, eqb-true, eq-eqb, le-leb, lt-ltb, ltb-true, and_parts, and_from, get_or-set_same, length-append, length-drop, length-map, list_all-append, length-enumerate_from, sum_by-append, split_takes, was_read, body-read, held-all, draw_index, kept-frame_of_draw, keeps_get, common_steps}
+use Rattle.gts_generate.proofs.Cited.{◌≡◌, Anew, ℕ, suc, zero, ◌+◌, ◌<◌, ◌≤◌, Bool, true, false, cond, ◌==◌, nat_le, nat_lt, Option, Some, None, List, [], ◌∷◌, ◌++◌, length, get_or, map, inl, inr, refl, sym, ap, subst, ◌∙◌, arith, count_by, Accepted, Asked, Bulletin, Choice, Circuit, CircuitState, Directory, Done, Doubt, Draw, Draws, Duplicate, ETX, Entry, Event, HasFrame, Heard, Idle, IsGap, IsHeld, IsMessage, IsOrdered, Kind, LineLost, Lost, Nothing, Nothing_waits, Outcome, Refused, Repeats, Resend, Restarted, State, Taken, Unsaid, WasRead, after, after_entry, after_heard, after_take, bulletin_at, choice, choice_of, circuit_need, dec, digits_on, draws, find, frames_in, frames_said, idle, is_circuit, is_draw, is_here, is_kept, is_resend, keeps_one, kept_on, list_all, next, numbered_frame, on, on_circuit, outcome, outcome_of, outcomes, owes_kept, said, spoken, spoken_of, with_drawn, with_repeated, zip, frame_of_draw, body_of, eqb-true, eq-eqb, le-leb, lt-ltb, ltb-true, and_parts, and_from, get_or-set_same, length-append, length-drop, length-map, list_all-append, length-enumerate_from, sum_by-append, split_takes, was_read, body-read, held-all, draw_index, kept-frame_of_draw, keeps_get, common_steps}
 use Rattle.gts_generate.proofs.ByteLemmas.{lacks, lacks-append, lacks-dec}
 use Rattle.gts_generate.proofs.ReceiptLemmas.{take_outcome, said_take}
 use Rattle.gts_generate.proofs.CountLemmas.{IsHeard, heard-event}
@@ -57,6 +57,7 @@ ends-event : (d : Directory) (s : State) (event : Event) → hears_one_end event
 ends-event d s (Heard c kind message) one all = ends-heard d s c kind message (outcome d s (Heard c kind message)) refl one all
 ends-event d s (Lost c field) one all = all
 ends-event d s (Taken c) one all = ends-take s c (choice d s c) all
+ends-event d s (Anew c again) one all = all
 
 ends-entry : (d : Directory) (s : State) (entry : Entry) → has_one_end entry ≡ true → list_all one_end s.accepted ≡ true
     → list_all one_end (after_entry d s entry).accepted ≡ true
@@ -170,6 +171,7 @@ frames-event d s (Lost c field) one few here end held all = grind (arith, common
 frames-event d s (Taken c) one few here end held all =
     frames-take d s c (choice d s c) refl one few (ltb-true c (length d.circuits) here) held.ordered
     (held-all d s (Done (Taken c) ∷ []) one (and_from (nat_lt c (length d.circuits)) true here refl) held) all
+frames-event d s (Anew c again) one few here end held all = refl
 
 frames-entry : (d : Directory) (s : State) (entry : Entry) → keeps_one d ≡ true → length d.circuits ≤ 8 → is_here d entry ≡ true
     → has_one_end entry ≡ true → IsHeld d s → list_all one_end s.accepted ≡ true

@@ -1,5 +1,5 @@
 -- Receipts are lines: each is counted where it begins with its word, and nowhere else.
-use Rattle.gts_generate.proofs.Cited.{◌≡◌, ℕ, ◌+◌, Bool, true, false, cond, not, ◌==◌, List, [], ◌∷◌, ◌++◌, refl, sym, ap, subst, ◌∙◌, arith, codes, count_by, and_parts, sum_by-append, Accepted, Asked, Choice, Directory, Done, Doubt, Draw, Draws, Duplicate, Entry, Event, FrameField, HeadingFields, Heard, Idle, IsHeading, IsMessage, Kind, LineLost, Lost, Many, Message, Nothing, Nothing_waits, Outcome, Outside, Refusal, Refused, Repeats, Request, Resend, Restarted, State, Taken, Unsaid, WasRead, after, after_entry, channel_bytes, choice, heading_of_message, is_duplicate, is_granted, lines_from, lost_text, no_heading, on, outcome, outcome_of, outcomes, receipt_text, receipts_of, refusal_text, said, spoken, spoken_of, then_number, frame_of_draw, split_takes, channel_bytes-append, channel_bytes-on, channel_bytes-on_other, was_read, heading_of_message-read, common_steps}
+use Rattle.gts_generate.proofs.Cited.{◌≡◌, Anew, ℕ, ◌+◌, Bool, true, false, cond, not, ◌==◌, List, [], ◌∷◌, ◌++◌, refl, sym, ap, subst, ◌∙◌, arith, codes, count_by, and_parts, sum_by-append, Accepted, Asked, Choice, Directory, Done, Doubt, Draw, Draws, Duplicate, Entry, Event, FrameField, HeadingFields, Heard, Idle, IsHeading, IsMessage, Kind, LineLost, Lost, Many, Message, Nothing, Nothing_waits, Outcome, Outside, Refusal, Refused, Repeats, Request, Resend, Restarted, State, Taken, Unsaid, WasRead, after, after_entry, channel_bytes, choice, heading_of_message, is_duplicate, is_granted, lines_from, lost_text, no_heading, on, outcome, outcome_of, outcomes, receipt_text, receipts_of, refusal_text, said, spoken, spoken_of, then_number, frame_of_draw, split_takes, channel_bytes-append, channel_bytes-on, channel_bytes-on_other, was_read, heading_of_message-read, common_steps}
 use Rattle.gts_heading.specs.declared.field.MessageField.TheVariants as field
 use Rattle.gts_request.specs.declared.fault.RequestField.TheVariants as asked
 use Rattle.gts_frame.specs.declared.lost.FrameField.TheVariants as lost
@@ -118,6 +118,7 @@ event-lines word kind counted d s (Taken c) rest =
     let ch : Choice = choice d s c in
     ap (λ (l : List ℕ). lines_from true word (l ++ rest)) (take-untold d (after d s (Taken c)) c ch)
     ∙ counted c (take_outcome ch) no_heading rest (take-heading ch)
+event-lines word kind counted d s (Anew c again) rest = counted c Nothing no_heading rest tt
 
 entry-lines : (word : List ℕ) (kind : Outcome → Bool) (counted : Counted word kind) (d : Directory) (s : State) (entry : Entry) (rest : List ℕ)
     → lines_from true word (channel_bytes 0 (spoken_of d s entry) ++ rest)

@@ -2,13 +2,14 @@
 ghost use Rattle.std.specs.Prelude.{◌≡◌, ℕ, ◌+◌, ◌<◌, ◌≤◌, [], true, length, map, vec_capacity, OnOk, IfErr};
 ghost use mathlib.Core.Option.{some};
 ghost use lib.ListN.{get_elem?};
-ghost use Rattle.gts_circuits.specs.Cited.{AreClosedUnused, AreOpened, IsSame, MOST_CIRCUITS, Rose, Sockets as SocketsOf, lines_seen as seen, place_asked};
+ghost use Rattle.gts_circuits.specs.Cited.{AreClosedUnused, AreOpened, IsSame, MOST_CIRCUITS, Rose, Sockets as SocketsOf, again_asked, lines_seen as seen, place_asked};
 
 use crate::service::room::CircuitRoom;
 use crate::workers::sockets::Sockets;
 use gts_traits::{Failed, Lines};
 
-/// Opens the lines of the first circuits, one for each room, each for so many connections. It stops at the first that fails.
+/// Opens the lines of the first circuits, one for each room, each for so many connections, and each with what its room says of a new
+/// outgoing one. It stops at the first that fails.
 pub(crate) fn open_all<L: Lines>(
     lines: &mut L,
     rooms: Vec<CircuitRoom>,
@@ -21,6 +22,9 @@ pub(crate) fn open_all<L: Lines>(
     ensures opened { OnOk result (AreOpened L.In.Source L.Out.Sink (seen L.Lines lines.old)
         (seen L.Lines lines.new) (map place_asked rooms.items) connections sockets.new.items
         (length sockets.new.items)) }
+    ensures again { OnOk result ((k : ℕ) (x : SocketsOf L.In L.Out)
+        → get_elem? sockets.new.items k ≡ some x
+        → get_elem? (map again_asked rooms.items) k ≡ some x.again) }
     ensures count { OnOk result (length sockets.new.items ≡ length rooms.items) }
     ensures stopped { IfErr result (λ c. AreOpened L.In.Source L.Out.Sink
         (seen L.Lines lines.old) (seen L.Lines lines.new)
@@ -34,6 +38,7 @@ pub(crate) fn open_all<L: Lines>(
     for room in rooms {
         let CircuitRoom {
             place,
+            again,
             decoder,
             given,
         } = room;
@@ -46,6 +51,7 @@ pub(crate) fn open_all<L: Lines>(
             connections,
             decoder,
             sink,
+            again,
             given,
         });
         c += 1;

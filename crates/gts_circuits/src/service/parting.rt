@@ -33,7 +33,12 @@ pub(crate) fn part<S: Drop, K: Drop>(
                 let Some(end) = end else { unreachable!() };
                 incoming.push_reserved(Incoming { source, end });
             }
-            Line::Outgoing { sink, given, end } => {
+            Line::Outgoing {
+                sink,
+                again: _again,
+                given,
+                end,
+            } => {
                 let Some(end) = end else { unreachable!() };
                 let Given {
                     one: frame,

@@ -1,6 +1,6 @@
 //! The memory that a run takes for its lines.
 ghost use Rattle.std.specs.Prelude.{◌≡◌, ◌*◌, ◌≤◌, [], length, map, vec_capacity, IfOk, IfSome};
-ghost use Rattle.gts_circuits.specs.Cited.{HIGHEST_PORT, LONGEST_IDLE, circuit_of_row, place_asked, place_of, place_seen};
+ghost use Rattle.gts_circuits.specs.Cited.{HIGHEST_PORT, LONGEST_IDLE, again_asked, again_of, circuit_of_row, place_asked, place_of, place_seen};
 
 use crate::service::ended::{Incoming, Outgoing};
 use crate::workers::sockets::Sockets;
@@ -10,10 +10,12 @@ use gts_frame::Decoder;
 use gts_traits::{NoMemory, Place};
 use std::alloc::Global;
 
-/// What opening a circuit's lines takes: its place, and the memory of its two workers.
+/// What opening a circuit's lines takes: its place, with how many of its last draws each new outgoing connection begins, and the memory
+/// of its two workers.
 #[derive(Drop)]
 pub(crate) struct CircuitRoom {
     pub(crate) place: Place,
+    pub(crate) again: u32,
     pub(crate) decoder: Decoder,
     pub(crate) given: Given,
 }
@@ -57,17 +59,26 @@ fn place_for(directory: &Directory, row: &CircuitRow) -> Place
     }
 }
 
-/// The room of each circuit of a directory, with the place that the directory has for it.
-fn rooms_for(alloc: Global, directory: &Directory) -> Result<Vec<CircuitRoom>, NoMemory>
+/// The room of each circuit of a directory, with the place that the directory has for it, and with how many of its last draws a new
+/// outgoing connection begins, by that, in a service that is always there or in another one.
+fn rooms_for(
+    alloc: Global,
+    directory: &Directory,
+    always: bool,
+) -> Result<Vec<CircuitRoom>, NoMemory>
     ensures count { IfOk result (λ rooms. length rooms.items ≡ length directory.now.circuits) }
     ensures places { IfOk result (λ rooms. map place_asked rooms.items
         ≡ map (place_of directory.now) directory.now.circuits) }
+    ensures again { IfOk result (λ rooms. map again_asked rooms.items
+        ≡ map (again_of always) directory.now.circuits) }
 {
     let circuits = directory.circuits();
     let mut rooms = Vec::with_capacity(alloc, circuits as usize)?;
     for c in 0..circuits {
+        let row = directory.circuit(c);
         rooms.push_reserved(CircuitRoom {
-            place: place_for(directory, directory.circuit(c)),
+            place: place_for(directory, row),
+            again: row.again_of(always),
             decoder: Decoder::new(alloc)?,
             given: Given::new(alloc)?,
         });
@@ -75,15 +86,18 @@ fn rooms_for(alloc: Global, directory: &Directory) -> Result<Vec<CircuitRoom>, N
     Ok(rooms)
 }
 
-/// The memory for the lines of all circuits of a directory.
+/// The memory for the lines of all circuits of a directory, in a service that is always there or in another one.
 pub(crate) fn room_for<S: Drop, K: Drop>(
     alloc: Global,
     directory: &Directory,
+    always: bool,
 ) -> Result<Room<S, K>, NoMemory>
     ensures rooms { IfOk result (λ room.
         length room.rooms.items ≡ length directory.now.circuits) }
     ensures places { IfOk result (λ room. map place_asked room.rooms.items
         ≡ map (place_of directory.now) directory.now.circuits) }
+    ensures again { IfOk result (λ room. map again_asked room.rooms.items
+        ≡ map (again_of always) directory.now.circuits) }
     ensures empty { IfOk result (λ room. (room.sockets.items ≡ []) × (room.incoming.items ≡ [])
         × (room.outgoing.items ≡ [])) }
     ensures sockets { IfOk result (λ room.
@@ -94,7 +108,7 @@ pub(crate) fn room_for<S: Drop, K: Drop>(
 {
     let circuits = directory.circuits() as usize;
     Ok(Room {
-        rooms: rooms_for(alloc, directory)?,
+        rooms: rooms_for(alloc, directory, always)?,
         sockets: Vec::with_capacity(alloc, circuits)?,
         incoming: Vec::with_capacity(alloc, 2 * circuits)?,
         outgoing: Vec::with_capacity(alloc, 2 * circuits)?,

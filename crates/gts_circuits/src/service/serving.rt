@@ -1,7 +1,7 @@
 ghost use Rattle.std.specs.Prelude.{◌≡◌, ℕ, ◌*◌, ◌<◌, ◌≤◌, [], true, length, map, Some, None, vec_capacity};
 ghost use mathlib.Core.Option.{some};
 ghost use lib.ListN.{get_elem?};
-ghost use Rattle.gts_circuits.specs.Cited.{AreDrained, IsFinished, IsServed, Line as LineOf, MOST_CIRCUITS, Stands, first_pass, has_end, incoming_of, lines_seen as seen, outgoing_of, place_asked, place_of};
+ghost use Rattle.gts_circuits.specs.Cited.{AreDrained, IsFinished, IsServed, Line as LineOf, MOST_CIRCUITS, Stands, again_asked, again_of, first_pass, has_end, incoming_of, lines_seen as seen, outgoing_of, place_asked, place_of};
 ghost use Rattle.gts_receiver.specs.Service as service;
 
 use crate::service::closing::close_all;
@@ -114,6 +114,8 @@ where
         ≡ length B.beginning.origin.directory.circuits }
     requires places { map place_asked room.rooms.items
         ≡ map (place_of B.beginning.origin.directory) B.beginning.origin.directory.circuits }
+    requires again { map again_asked room.rooms.items
+        ≡ map (again_of B.beginning.makes_room) B.beginning.origin.directory.circuits }
     requires few { length room.rooms.items ≤ MOST_CIRCUITS }
     requires empty { (room.sockets.items ≡ []) × (room.incoming.items ≡ [])
         × (room.outgoing.items ≡ []) }
@@ -178,7 +180,8 @@ where
         (seen L.Lines lines.old) (seen L.Lines lines.new)
         result.pass result.end result.engine }
 {
-    let Ok(room) = room_for(alloc, engine.directory()) else {
+    let always = goes_on(connections);
+    let Ok(room) = room_for(alloc, engine.directory(), always) else {
         return unserved(engine, ServeEnd::NoMemory);
     };
     // A worker for which no thread can be made would wait for another to end, which a service never does.
@@ -188,7 +191,7 @@ where
     }
     let housed: Housed<P, B> = Housed {
         engine,
-        makes_room: goes_on(connections),
+        makes_room: always,
         began: PhantomData,
     };
     match Hall::new(alloc, housed) {

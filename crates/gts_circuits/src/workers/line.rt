@@ -16,9 +16,10 @@ pub enum Line<S, K> {
         decoder: Decoder,
         end: Option<ReceiveEnd>,
     },
-    /// A sender's sink, and room for the frames of a turn.
+    /// A sender's sink, with how many of the last draws each new connection begins, and room for the frames of a turn.
     Outgoing {
         sink: K,
+        again: u32,
         given: Given,
         end: Option<SendEnd>,
     },

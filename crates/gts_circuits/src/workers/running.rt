@@ -1,7 +1,7 @@
 ghost use Rattle.std.specs.Prelude.{◌≡◌, ℕ, ◌≤◌, ◌*◌, [], Some, length};
 ghost use mathlib.Core.Option.{some};
 ghost use lib.ListN.{get_elem?};
-ghost use Rattle.gts_circuits.specs.Cited.{AllJoined, HaveEnded, MOST_CIRCUITS, Sockets as SocketsOf, first_pass};
+ghost use Rattle.gts_circuits.specs.Cited.{AllJoined, HaveEnded, MOST_CIRCUITS, Sockets as SocketsOf, again_at, first_pass};
 
 use crate::workers::crew::Crew;
 use crate::workers::gathering::gather;
@@ -39,6 +39,8 @@ where
     requires few { length sockets.items ≤ MOST_CIRCUITS }
     requires some { (k : ℕ) (x : SocketsOf S K)
         → get_elem? sockets.items k ≡ some x → 1 ≤ x.connections }
+    requires again { (k : ℕ) (x : SocketsOf S K)
+        → get_elem? sockets.items k ≡ some x → x.again ≡ again_at B.beginning k }
     requires room { length sockets.items ≤ crew }
     ensures hall { result.0.hall ≡ Some hall.now }
     ensures first { (result.0.name ≡ 0) × (result.0.own ≡ []) }

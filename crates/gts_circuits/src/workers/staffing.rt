@@ -1,7 +1,7 @@
 ghost use Rattle.std.specs.Prelude.{◌≡◌, ℕ, ◌*◌, ◌++◌, ◌+◌, ◌≤◌, [], Some, length, vec_capacity};
 ghost use mathlib.Core.Option.{some};
 ghost use lib.ListN.{get_elem?};
-ghost use Rattle.gts_circuits.specs.Cited.{MOST_CIRCUITS, Sockets as SocketsOf, receivers_of, senders_of};
+ghost use Rattle.gts_circuits.specs.Cited.{MOST_CIRCUITS, Sockets as SocketsOf, again_at, receivers_of, senders_of};
 
 use crate::workers::ringing::RunBell;
 use crate::workers::sockets::Sockets;
@@ -31,6 +31,8 @@ where
     requires few { length sockets.items ≤ MOST_CIRCUITS }
     requires some { (k : ℕ) (x : SocketsOf S K)
         → get_elem? sockets.items k ≡ some x → 1 ≤ x.connections }
+    requires again { (k : ℕ) (x : SocketsOf S K)
+        → get_elem? sockets.items k ≡ some x → x.again ≡ again_at B.beginning k }
     requires empty { (receivers.old.items ≡ []) × (senders.old.items ≡ []) }
     requires room { (2 * length sockets.items ≤ vec_capacity receivers.old)
         × (length sockets.items ≤ vec_capacity senders.old) }
@@ -47,13 +49,15 @@ where
             connections,
             decoder,
             sink,
+            again,
             given,
         } = both;
         let (rest, pass) = hall.split(first);
         let receiver = Worker::receiver(circuit, hall, bells, pass, source, connections, decoder);
         receivers.push_reserved(receiver);
         let (rest, pass) = hall.split(rest);
-        senders.push_reserved(Worker::sender(circuit, hall, bells, pass, sink, given));
+        let sender = Worker::sender(circuit, hall, bells, pass, sink, again, given);
+        senders.push_reserved(sender);
         first = rest;
         circuit += 1;
     }

@@ -11,7 +11,7 @@ use gts_calls::Given;
 use gts_frame::Decoder;
 use gts_lock::{Bell, Hall, Pass};
 use gts_receiver::{PIECE, ReceiveEnd, receive};
-use gts_sender::{SendEnd, send};
+use gts_sender::{OutgoingLine, SendEnd, send};
 use gts_traits::{Gate, Line as Connections, Sink, Station};
 use std::marker::Model;
 use std::snapshot::Snapshot;
@@ -67,31 +67,31 @@ fn receive_at<R: Wait, P: Station, B: Began, S: Connections, G: Gate>(
     (desk.into_pass(), end)
 }
 
-/// Sends on a circuit from a desk, and gives the desk's pass.
+/// Sends on the line of a circuit from a desk, and gives the desk's pass.
 fn send_at<R: Wait, P: Station, B: Began, K: Sink, G: Gate>(
     rt: &R,
     desk: HallDesk<'_, R, P, B>,
-    c: u32,
+    line: OutgoingLine,
     sink: &mut K,
     given: &mut Given,
     bell: &Bell,
     gate: &G,
 ) -> (Pass<Housed<P, B>>, SendEnd)
-    requires { c < length B.beginning.origin.directory.circuits }
+    requires { line.circuit < length B.beginning.origin.directory.circuits }
     ensures hall { result.0.hall ≡ desk.entry.hall }
     ensures name { result.0.name ≡ desk.entry.name }
     ensures own { KnowsOwn result.0 }
-    ensures keeps { SenderKeeps K.Sink c sink.old sink.new
+    ensures keeps { SenderKeeps K.Sink line.circuit line.again sink.old sink.new
         (seen_by B.beginning desk.entry) (seen_by B.beginning result.0) result.1 }
 {
     let mut desk = desk;
-    let end = send(rt, &mut desk, c, sink, given, bell, gate);
+    let end = send(rt, &mut desk, line, sink, given, bell, gate);
     (desk.into_pass(), end)
 }
 
 impl<'a, P: Station, B: Began, S: Connections, K: Sink> Worker<'a, P, B, S, K> {
     ghost use Rattle.std.specs.Prelude.{◌≡◌, ◌<◌, ◌≤◌, true, length};
-    ghost use Rattle.gts_circuits.specs.Cited.{KnowsOwn, MOST_CIRCUITS, PassKeeps, Reads, Writes, begun, fresh, has_end, receiver_name, seen_by, sender_name};
+    ghost use Rattle.gts_circuits.specs.Cited.{KnowsOwn, MOST_CIRCUITS, PassKeeps, Reads, Writes, again_at, begun, fresh, has_end, receiver_name, seen_by, sender_name};
 
     /// The receiver of a circuit, over so many connections, with a pass that has seen nothing.
     pub fn receiver(
@@ -128,17 +128,19 @@ impl<'a, P: Station, B: Began, S: Connections, K: Sink> Worker<'a, P, B, S, K> {
         }
     }
 
-    /// The sender of a circuit, with a pass that has seen nothing.
+    /// The sender of a circuit, each of whose new connections begins with so many of the last draws, with a pass that has seen nothing.
     pub fn sender(
         circuit: u32,
         hall: &'a Hall<Housed<P, B>>,
         bells: &'a RunBell,
         pass: Pass<Housed<P, B>>,
         sink: K,
+        again: u32,
         given: Given,
     ) -> Worker<'a, P, B, S, K>
         requires circuit { circuit < length B.beginning.origin.directory.circuits }
         requires few { circuit < MOST_CIRCUITS }
+        requires again { again ≡ again_at B.beginning circuit }
         requires new { seen_by B.beginning pass
             ≡ fresh B.beginning hall.now (sender_name circuit) }
         requires own { KnowsOwn pass }
@@ -146,6 +148,7 @@ impl<'a, P: Station, B: Began, S: Connections, K: Sink> Worker<'a, P, B, S, K> {
     {
         let line = Line::Outgoing {
             sink,
+            again,
             given,
             end: None,
         };
@@ -209,9 +212,18 @@ impl<'a, P: Station, B: Began, S: Connections, K: Sink> Worker<'a, P, B, S, K> {
                 self.pass = Some(pass);
                 self.bells.leave();
             }
-            Line::Outgoing { sink, given, end } => {
-                let bell = self.bells.bells().bell(self.circuit);
-                let (pass, how) = send_at(rt, desk, self.circuit, sink, given, bell, gate);
+            Line::Outgoing {
+                sink,
+                again,
+                given,
+                end,
+            } => {
+                let line = OutgoingLine {
+                    circuit: self.circuit,
+                    again: *again,
+                };
+                let bell = self.bells.bells().bell(line.circuit);
+                let (pass, how) = send_at(rt, desk, line, sink, given, bell, gate);
                 *end = Some(how);
                 self.pass = Some(pass);
             }

@@ -28,12 +28,12 @@ pub use Rattle.gts_directory.specs.declared.fault.DirFault.{DirFault}
 pub use Rattle.gts_directory.specs.declared.rows.CircuitRow.{CircuitRow}
 pub use Rattle.gts_directory.specs.declared.rows.LevelRow.{LevelRow}
 pub use Rattle.gts_directory.specs.declared.rows.RuleRow.{RuleRow}
-pub use Rattle.gts_event.specs.Cited.{Bulletin, Choice, CircuitNeed, CircuitState, Draws, EachOwedFew, EachRoutedOnce, HasFrame, IsHeld, IsOrdered, Need, Nothing_waits, Repeats, State, WasRead, after, after_all, after_entry, after_heard, after_take, all_done, all_owed_last, answer, answer_to, begun, bulletin_at, choice, choice_of, circuit_need, circuit_need_of, digits_on, drawn, draws, duplicate, empty, found, has, heading_of_message, idle}
-pub use Rattle.gts_event.specs.Cited.{is_here, is_kept, is_request, is_sound, items_of, keeps_one, kept_on, last_of, lost_text, most_owed, need, need_of, next, no_heading, nothing, numbered_frame, on_circuit, outcome, outcome_of, outcomes, owed_again, owed_last, owes_kept, places, receipt_text, refusal_text, restarted, said, spoken, spoken_of, takes_of_drain, then_number, verdict, waiting, with_drawn, with_repeated, with_routed}
+pub use Rattle.gts_event.specs.Cited.{Bulletin, Choice, CircuitNeed, CircuitState, Draws, EachOwedFew, EachRoutedOnce, HasFrame, IsHeld, IsOrdered, Need, Nothing_waits, Repeats, State, WasRead, after, after_all, after_entry, after_heard, after_take, all_done, all_owed_last, answer, answer_to, begins_with, begun, bulletin_at, choice, choice_of, circuit_need, circuit_need_of, digits_on, drawn, draws, duplicate, empty, found, has, heading_of_message, idle}
+pub use Rattle.gts_event.specs.Cited.{is_here, is_kept, is_request, is_sound, items_of, keeps_one, kept_on, last_of, lost_text, most_owed, need, need_of, next, no_heading, nothing, numbered_frame, on_circuit, outcome, outcome_of, outcomes, owed_again, owed_last, owes_kept, places, receipt_text, refusal_text, restarted, said, spoken, spoken_of, takes_of_drain, then_number, verdict, waiting, with_anew, with_drawn, with_repeated, with_routed}
 pub use Rattle.gts_event.specs.declared.event.Entry.{Entry}
 pub use Rattle.gts_event.specs.declared.event.Entry.TheVariants.{Done, Doubt, Idle, Restarted, Unsaid}
 pub use Rattle.gts_event.specs.declared.event.Event.{Event}
-pub use Rattle.gts_event.specs.declared.event.Event.TheVariants.{Heard, Lost, Taken}
+pub use Rattle.gts_event.specs.declared.event.Event.TheVariants.{Anew, Heard, Lost, Taken}
 pub use Rattle.gts_event.specs.declared.fault.Device.{Device}
 pub use Rattle.gts_event.specs.declared.fault.Device.TheVariants.{Disk, Say}
 pub use Rattle.gts_event.specs.declared.outcome.Outcome.{Outcome}

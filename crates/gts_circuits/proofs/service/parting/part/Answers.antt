@@ -15,7 +15,7 @@ unreachable-requires-in_default-end g c =
     let i = c.loop-line.invariant in
     let split = subst (λ (l : _). c.loop-line.yielded ++ l ≡ c.args.lines.items) c.in-Some.ensures.steps.0 i.split in
     let at = in_middle c.loop-line.yielded c.in-Some.line _ c.args.lines.items split in
-    sink_ended c.in-Some.line c.in-Outgoing.sink c.in-Outgoing.given c.in-Outgoing.end c.in-Outgoing.is c.in_default-end.is (c.requires.ended (length c.loop-line.yielded) c.in-Some.line at)
+    sink_ended c.in-Some.line c.in-Outgoing.sink c.in-Outgoing._again c.in-Outgoing.given c.in-Outgoing.end c.in-Outgoing.is c.in_default-end.is (c.requires.ended (length c.loop-line.yielded) c.in-Some.line at)
 
 pub loop-line-preserved-in-Incoming : goal.loop-line-preserved-in-Incoming
 loop-line-preserved-in-Incoming g c =
@@ -43,9 +43,9 @@ loop-line-preserved g c =
     record {
       can = (tt, tt);
       split = append_assoc c.loop-line.yielded (c.in-Some.line ∷ []) c.next.new.self.rest.items ∙ split;
-      incoming = no_source c.in-Some.line c.in-Outgoing.sink c.in-Outgoing.given c.in-Outgoing.end c.in-Some-end-2.end c.in-Outgoing.is c.in-Some-end-2.is
+      incoming = no_source c.in-Some.line c.in-Outgoing.sink c.in-Outgoing._again c.in-Outgoing.given c.in-Outgoing.end c.in-Some-end-2.end c.in-Outgoing.is c.in-Some-end-2.is
           c.loop-line.yielded c.loop-line.incoming.items i.incoming;
-      outgoing = c.push_reserved-in-Outgoing.ensures.items ∙ sink_more c.in-Some.line c.in-Outgoing.sink c.in-Outgoing.given c.in-Outgoing.end c.in-Some-end-2.end c.in-Outgoing.is c.in-Some-end-2.is
+      outgoing = c.push_reserved-in-Outgoing.ensures.items ∙ sink_more c.in-Some.line c.in-Outgoing.sink c.in-Outgoing._again c.in-Outgoing.given c.in-Outgoing.end c.in-Some-end-2.end c.in-Outgoing.is c.in-Some-end-2.is
           c.loop-line.yielded c.loop-line.outgoing.items i.outgoing;
       few = (omega (arith, more, i.few.0), omega (arith, more, grown, i.few.1));
       room = search rules;

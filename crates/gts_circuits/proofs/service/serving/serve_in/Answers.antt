@@ -1,5 +1,6 @@
-use Rattle.gts_circuits.proofs.Cited.{List, length, map, Option, refl, sym, ap, ◌∙◌, subst, arith, Entry, IsServed, Known, Served, Stands, all_of, entries, lines_seen, outgoing_of, place_asked}
+use Rattle.gts_circuits.proofs.Cited.{List, length, map, Option, refl, sym, ap, ◌∙◌, subst, arith, Entry, IsServed, Known, Served, Stands, again_asked, all_of, entries, lines_seen, outgoing_of, place_asked}
 use Rattle.gts_circuits.proofs.DrainLemmas.{none_drained}
+use Rattle.gts_circuits.proofs.ItemLemmas.{again_is}
 use Rattle.gts_circuits.proofs.ServeEndedLemmas.{are_ended}
 use Rattle.gts_circuits.proofs.ServedLemmas.{stops, served}
 use Rattle.gts_circuits.proofs.service.serving.serve_in.Goals as goal
@@ -91,3 +92,7 @@ finish-requires-clause-open g c κs within =
 pub run_all-first-requires-clause-some : goal.run_all-first-requires-clause-some
 run_all-first-requires-clause-some g c κs within = λ k x at.
     let many = c.in_default-open_all.ensures.opened.for_all k x at in omega (arith, many, c.requires.some)
+
+pub run_all-first-requires-clause-again : goal.run_all-first-requires-clause-again
+run_all-first-requires-clause-again g c κs within = λ k x at.
+    again_is g.B.Began.beginning (map again_asked c.args.room.rooms.items) k x.again c.requires.again (c.in_default-open_all.ensures.again k x at)
