@@ -1,177 +1,194 @@
-use crate::numbers::{Numbered, first_of, next_of, number_in};
+ghost use Rattle.std.specs.Prelude.{◌≡◌, ℕ, ◌<◌, ◌+◌, ◌-◌};
+ghost use Rattle.gts_tcp.specs.Spans.{IsAmong};
+
+use crate::numbers::{Digits, number_in, place_up_to};
+use crate::spans::Places;
 use std::fmt;
 
 /// The seconds of a minute.
 const SECONDS: u64 = 60;
 
-/// Numbers that don't follow the others in turn, as those of repetitions: all between the least and the greatest.
-#[derive(Clone, Copy)]
-struct Span {
-    least: Numbered,
-    greatest: Numbered,
+/// How many of its last draws a line is begun with at most, whatever its circuit's row says: no circuit owes more.
+const MOST_AGAIN: u32 = 4_096;
+
+/// The order of a circuit's draws, as their frames are handed over. The number of a draw is the remainder of its place by the round.
+#[derive(Clone, Copy, Drop)]
+pub(crate) struct Course {
+    digits: Digits,
+    /// The place of the next draw; 0 where no number was seen yet.
+    next: u64,
+    /// How many of the last draws begin a line.
+    again: u32,
 }
 
-/// The numbers between two of them, whichever is less.
-fn span_of(one: Numbered, other: Numbered) -> Span {
-    if one.value <= other.value {
-        Span {
-            least: one,
-            greatest: other,
+impl Course {
+    /// No number was seen yet, and nothing begins a line.
+    pub(crate) fn new() -> Course {
+        Course {
+            digits: Digits::Three,
+            next: 0,
+            again: 0,
         }
-    } else {
-        Span {
-            least: other,
-            greatest: one,
+    }
+
+    /// So many of the last draws begin a line.
+    pub(crate) fn begins_with(&mut self, again: u32) {
+        self.again = again.min(MOST_AGAIN);
+    }
+
+    /// How many of the last draws begin a line.
+    pub(crate) fn again(self) -> u32 {
+        self.again
+    }
+
+    /// The first of the last draws that would begin a line now.
+    fn first_again(self) -> u64
+        ensures { result ≡ self.next - self.again }
+    {
+        self.next.saturating_sub(u64::from(self.again))
+    }
+
+    /// The place of a frame, and whether it is a draw: a frame with the number of the next draw is, and another one is a repetition.
+    fn take(&mut self, frame: &[u8]) -> (Places, bool) {
+        let Some(number) = number_in(frame) else {
+            return (Places::new(), false);
+        };
+        self.digits = number.digits;
+        if self.next == 0 {
+            self.next = u64::from(self.digits.round()) + u64::from(number.value);
         }
+        let late = self.first_again();
+        let place = place_up_to(self.next, number);
+        let is_draw = place == self.next;
+        if is_draw {
+            self.next = self.next.saturating_add(1);
+        }
+        (Places::of(place, late, self.digits), is_draw)
     }
 }
 
-/// So many numbers that follow one another up to this one; where they come round, all that there are.
-fn span_up_to(last: Numbered, count: u64) -> Span {
-    let digits = last.digits;
-    let first = first_of(last, count);
-    if count < u64::from(digits.round()) && first.value <= last.value {
-        return span_of(first, last);
-    }
-    let value = digits.round() - 1;
-    Span {
-        least: Numbered { digits, value: 0 },
-        greatest: Numbered { digits, value },
-    }
-}
-
-/// Those of two.
-fn both(one: Option<Span>, other: Option<Span>) -> Option<Span> {
-    match (one, other) {
-        (Some(one), Some(other)) => Some(Span {
-            least: span_of(one.least, other.least).least,
-            greatest: span_of(one.greatest, other.greatest).greatest,
-        }),
-        (Some(span), None) | (None, Some(span)) => Some(span),
-        (None, None) => None,
-    }
-}
-
-/// What was handed to a connection: how many frames and bytes, and their numbers.
+/// What was handed to a connection: how many frames and bytes, and their places.
 #[derive(Clone, Copy)]
 pub(crate) struct Handed {
     frames: u64,
     bytes: u64,
-    /// The last of the numbers that follow one another.
-    last: Option<Numbered>,
-    /// How many of these there are.
-    in_turn: u64,
-    /// The other numbers.
-    others: Option<Span>,
+    places: Places,
     /// The second of the last frame.
     until: u64,
 }
 
 impl Handed {
+    /// Nothing was, in this second.
+    fn new(until: u64) -> Handed {
+        Handed {
+            frames: 0,
+            bytes: 0,
+            places: Places::new(),
+            until,
+        }
+    }
+
     /// The second of the last frame.
     pub(crate) fn until(self) -> u64 {
         self.until
     }
 
-    /// What was handed to two connections, one behind the other. The numbers of the later one follow those of the former, or they are
-    /// among the others.
-    pub(crate) fn joined(self, later: Handed) -> Handed {
-        let mut others = both(self.others, later.others);
-        let (last, in_turn) = match (self.last, later.last) {
-            (None, _) => (later.last, later.in_turn),
-            (Some(_), None) => (self.last, self.in_turn),
-            (Some(end), Some(last)) => {
-                if first_of(last, later.in_turn) == next_of(end) {
-                    (later.last, self.in_turn.saturating_add(later.in_turn))
-                } else {
-                    others = both(others, Some(span_up_to(last, later.in_turn)));
-                    (self.last, self.in_turn)
-                }
-            }
-        };
+    /// What was handed to both.
+    pub(crate) fn joined(self, later: Handed) -> Handed
+        ensures one { (p : ℕ) → IsAmong p self.places → IsAmong p result.places }
+        ensures other { (p : ℕ) → IsAmong p later.places → IsAmong p result.places }
+    {
         Handed {
             frames: self.frames.saturating_add(later.frames),
             bytes: self.bytes.saturating_add(later.bytes),
-            last,
-            in_turn,
-            others,
+            places: self.places.joined(later.places),
             until: later.until,
         }
     }
 
-    /// How many numbers there are until they come round, where no fewer were handed in turn.
-    fn round_passed(self) -> Option<u32> {
-        let round = self.last?.digits.round();
-        if self.in_turn < u64::from(round) {
-            return None;
+    /// What of it may be missing where a line is begun with the last draws.
+    pub(crate) fn but_for_the_last(self, course: Course) -> Missing
+        ensures handed { (p : ℕ) → IsAmong p result.places → IsAmong p self.places }
+        ensures gone { (p : ℕ) → IsAmong p result.places → p + course.again < course.next }
+        ensures all { (p : ℕ) → IsAmong p self.places → p + course.again < course.next
+            → IsAmong p result.places }
+    {
+        let places = self.places.before(course.first_again());
+        Missing {
+            frames: places.count(),
+            places,
+            again: course.again,
         }
-        Some(round)
     }
 }
 
 impl fmt::Display for Handed {
     fn fmt<W: fmt::Write>(&self, f: &mut fmt::Formatter<W>) -> fmt::Result {
-        let (frames, bytes) = (self.frames, self.bytes);
-        write!(f, "{frames} frames, {bytes} bytes")?;
-        if let Some(last) = self.last {
-            let first = first_of(last, self.in_turn);
-            write!(f, ", numbers {first} to {last}")?;
-        }
-        if let Some(Span { least, greatest }) = self.others {
-            write!(f, ", also {least} to {greatest}")?;
-        }
-        match self.round_passed() {
-            Some(round) => write!(
-                f,
-                "; a round of {round} or more, which the neighbour can't see"
-            ),
-            None => Ok(()),
+        let Handed {
+            frames,
+            bytes,
+            places,
+            until: _,
+        } = *self;
+        write!(f, "{frames} frames, {bytes} bytes{places}")
+    }
+}
+
+/// What may be missing at a neighbour, of what was handed to connections that broke.
+#[derive(Clone, Copy)]
+pub(crate) struct Missing {
+    frames: u64,
+    places: Places,
+    again: u32,
+}
+
+impl Missing {
+    /// How many of the last draws the line was begun with.
+    pub(crate) fn again(self) -> u32 {
+        self.again
+    }
+
+    /// What may be missing of both.
+    pub(crate) fn joined(self, later: Missing) -> Missing
+        ensures one { (p : ℕ) → IsAmong p self.places → IsAmong p result.places }
+        ensures other { (p : ℕ) → IsAmong p later.places → IsAmong p result.places }
+    {
+        Missing {
+            frames: self.frames.saturating_add(later.frames),
+            places: self.places.joined(later.places),
+            again: later.again,
         }
     }
 }
 
-/// What was handed to a connection within a second.
-#[derive(Clone, Copy)]
-struct Second {
-    at: u64,
-    frames: u64,
-    bytes: u64,
-    in_turn: u64,
-    others: Option<Span>,
-}
-
-impl Second {
-    /// Nothing was.
-    fn new(at: u64) -> Second {
-        Second {
-            at,
-            frames: 0,
-            bytes: 0,
-            in_turn: 0,
-            others: None,
+impl fmt::Display for Missing {
+    fn fmt<W: fmt::Write>(&self, f: &mut fmt::Formatter<W>) -> fmt::Result {
+        let Missing { frames, places, .. } = *self;
+        if frames == 0 {
+            return write!(f, "nothing may be missing");
         }
+        write!(f, "may be missing: {frames} frames{places}")?;
+        if places.is_a_round(frames) {
+            write!(f, ", which the neighbour can't see")?;
+        }
+        Ok(())
     }
 }
 
 /// What was handed to a connection in the minute up to its last frame, second by second.
 #[derive(Clone, Copy, Drop)]
 pub(crate) struct LastMinute {
-    seconds: [Second; SECONDS as usize],
+    seconds: [Handed; SECONDS as usize],
     /// The second of the last frame.
     newest: u64,
-    /// The last of the numbers that follow one another, and its second.
-    last: Option<Numbered>,
-    last_at: u64,
 }
 
 impl LastMinute {
     /// Nothing was handed.
     pub(crate) fn new() -> LastMinute {
         LastMinute {
-            seconds: [Second::new(0); SECONDS as usize],
+            seconds: [Handed::new(0); SECONDS as usize],
             newest: 0,
-            last: None,
-            last_at: 0,
         }
     }
 
@@ -180,57 +197,31 @@ impl LastMinute {
         self.newest
     }
 
-    /// Whether this number follows those that follow one another, or begins them.
-    fn is_in_turn(&self, number: Numbered, at: u64) -> bool {
-        match self.last {
-            Some(last) => next_of(last) == number || at.saturating_sub(self.last_at) >= SECONDS,
-            None => true,
-        }
-    }
-
-    /// A frame was handed in this second.
-    pub(crate) fn note(&mut self, frame: &[u8], at: u64) {
-        let number = number_in(frame);
-        let is_in_turn = match number {
-            Some(number) => self.is_in_turn(number, at),
-            None => false,
+    /// A frame was handed in this second. Answers whether it is a draw.
+    pub(crate) fn note(&mut self, frame: &[u8], course: &mut Course, at: u64) -> bool {
+        let (places, is_draw) = course.take(frame);
+        let one = Handed {
+            frames: 1,
+            bytes: frame.len() as u64,
+            places,
+            until: at,
         };
         let second = &mut self.seconds[(at % SECONDS) as usize];
-        if second.at != at {
-            *second = Second::new(at);
+        if second.until != at {
+            *second = Handed::new(at);
         }
-        second.frames = second.frames.saturating_add(1);
-        second.bytes = second.bytes.saturating_add(frame.len() as u64);
+        *second = second.joined(one);
         self.newest = at;
-        if is_in_turn {
-            second.in_turn = second.in_turn.saturating_add(1);
-            self.last = number;
-            self.last_at = at;
-        } else if let Some(number) = number {
-            second.others = both(second.others, Some(span_of(number, number)));
-        }
+        is_draw
     }
 
     /// All of it. None where it is nothing.
     pub(crate) fn handed(&self) -> Option<Handed> {
-        let mut sum = Handed {
-            frames: 0,
-            bytes: 0,
-            last: self.last,
-            in_turn: 0,
-            others: None,
-            until: self.newest,
-        };
+        let mut sum = Handed::new(self.newest);
         for second in &self.seconds {
-            if self.newest.saturating_sub(second.at) < SECONDS {
-                sum.frames = sum.frames.saturating_add(second.frames);
-                sum.bytes = sum.bytes.saturating_add(second.bytes);
-                sum.in_turn = sum.in_turn.saturating_add(second.in_turn);
-                sum.others = both(sum.others, second.others);
+            if self.newest.saturating_sub(second.until) < SECONDS {
+                sum = second.joined(sum);
             }
-        }
-        if sum.in_turn == 0 {
-            sum.last = None;
         }
         if sum.frames == 0 { None } else { Some(sum) }
     }

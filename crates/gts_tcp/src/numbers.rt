@@ -1,4 +1,4 @@
-ghost use Rattle.std.specs.Prelude.{◌≡◌, ℕ, ◌+◌, ◌-◌, ◌%◌, ◌<◌, ◌∷◌, ◌↔◌, drop, nat_eq, true, IfNone, IfSome, IsSome};
+ghost use Rattle.std.specs.Prelude.{◌≡◌, ℕ, ◌+◌, ◌%◌, ◌<◌, ◌≤◌, ◌∷◌, ◌↔◌, drop, nat_eq, true, IfNone, IfSome, IsSome};
 ghost use Rattle.gts_tcp.specs.Cited.{EOL, FRAME_HEAD, SOH, starts_with};
 ghost use Rattle.gts_tcp.specs.Numbers.{Carries, IsNumberAt, behind_start, count_of, round_of};
 
@@ -111,34 +111,30 @@ pub(crate) fn number_in(frame: &[u8]) -> Option<Numbered>
     number_of(rest)
 }
 
-/// The number that follows one: behind the greatest comes 0.
-pub(crate) fn next_of(number: Numbered) -> Numbered
-    ensures digits { result.digits ≡ number.digits }
-    ensures next { number.value + 1 < round_of number.digits → result.value ≡ number.value + 1 }
-    ensures round { number.value + 1 ≡ round_of number.digits → result.value ≡ 0 }
+/// The place of a number in the order of a circuit's draws, whose remainder by the round is the number: the last one up to `next`,
+/// where the next draw will stand. It is `next` exactly where this number is the next one.
+pub(crate) fn place_up_to(next: u64, number: Numbered) -> u64
+    ensures before { result ≤ next }
+    ensures near { next < result + round_of number.digits }
+    ensures stands { round_of number.digits ≤ next
+        → result % round_of number.digits ≡ number.value % round_of number.digits }
 {
-    let Numbered { digits, value } = number;
-    let last = digits.round() - 1;
-    let value = if value < last { value + 1 } else { 0 };
-    Numbered { digits, value }
+    let round = u64::from(number.digits.round());
+    let value = u64::from(number.value) % round;
+    let at = next % round;
+    let back = if at < value {
+        at + round - value
+    } else {
+        at - value
+    };
+    next.saturating_sub(back)
 }
 
-/// The first of so many numbers that follow one another, of which this is the last.
-pub(crate) fn first_of(last: Numbered, count: u64) -> Numbered
-    ensures digits { result.digits ≡ last.digits }
-    ensures small { result.value < round_of last.digits }
-    ensures first { 0 < count → last.value < round_of last.digits
-        → (result.value + (count - 1)) % round_of last.digits ≡ last.value }
+/// The number that stands at a place.
+pub(crate) fn standing_at(place: u64, digits: Digits) -> Numbered
+    ensures digits { result.digits ≡ digits }
+    ensures value { result.value ≡ place % round_of digits }
 {
-    let digits = last.digits;
-    let round = u64::from(digits.round());
-    let back = count.saturating_sub(1) % round;
-    let from = u64::from(last.value) % round;
-    let first = if from < back {
-        from + round - back
-    } else {
-        from - back
-    };
-    let value = first as u32;
+    let value = (place % u64::from(digits.round())) as u32;
     Numbered { digits, value }
 }

@@ -1,8 +1,9 @@
 ghost use Rattle.std.specs.Prelude.{◌≡◌, ◌≤◌, [], length, IfOk};
 
+use crate::breaks::Breaks;
 use crate::cause::{named, note};
 use crate::dialing::{LONGEST_TRY, dial_once};
-use crate::handed::{Handed, LastMinute};
+use crate::handed::{Course, LastMinute};
 use crate::incoming::not_connected;
 use crate::lines::is_closed;
 use crate::pausing::Pauses;
@@ -34,8 +35,11 @@ const A_SECOND: u32 = 1_000;
 /// How many looks in turn may find nothing of a neighbour that was sent the end: those of five seconds.
 const MOST_SILENT_LOOKS: u32 = 5_000 / LONGEST_WAIT;
 
+/// How many writes wait in vain in a second.
+const WAITS_A_SECOND: u32 = A_SECOND / LONGEST_WAIT;
+
 /// How many writes in turn may have waited in vain until an operator is told: those of a minute.
-const MOST_WAITS: u32 = 60 * A_SECOND / LONGEST_WAIT;
+const MOST_WAITS: u32 = 60 * WAITS_A_SECOND;
 
 /// The way to a neighbour's port, over the connection that stands there now.
 #[derive(Drop)]
@@ -49,7 +53,7 @@ struct Way<'a, R: Net<Listener = TcpListener, Stream = TcpStream> + Clock + Epri
     has_stood: bool,
     /// Whether a connection was made since it was last asked for that.
     is_new: bool,
-    /// The pauses between tries until the first one stands.
+    /// The pauses between tries where nothing is to be written: until the first one stands, and behind a break.
     pauses: Pauses,
     /// When something was last written.
     written: Option<Instant>,
@@ -58,10 +62,10 @@ struct Way<'a, R: Net<Listener = TcpListener, Stream = TcpStream> + Clock + Epri
     begun: Option<Instant>,
     /// What was handed to the connection that stands.
     minute: LastMinute,
-    /// Why the last connection broke, and what was handed to those that did, where it wasn't told yet.
-    untold: Option<(io::Error, Handed)>,
+    /// The order of the draws that were handed to all connections.
+    course: Course,
     /// Tells of connections that broke.
-    breaks: Teller,
+    breaks: Breaks,
 }
 
 impl<R: Net<Listener = TcpListener, Stream = TcpStream> + Clock + Eprint> Way<'_, R> {
@@ -90,19 +94,32 @@ impl<R: Net<Listener = TcpListener, Stream = TcpStream> + Clock + Eprint> Way<'_
         Ok(())
     }
 
-    /// Writes all of a piece on the connection that stands. Where the neighbour takes nothing for a minute, the operator is told.
+    /// Writes all of a piece on the connection that stands. Where the neighbour takes nothing for a minute, the operator is told; where
+    /// it takes nothing for the circuit's `idle` seconds, that too, and the connection is broken.
     fn write_whole(&mut self, piece: &[u8]) -> io::Result<()> {
         let stop = self.patience.stop;
+        let most = most_waits(self.place.idle);
         let mut rest = piece;
+        let mut waited = 0u32;
         for _ in 0..u64::MAX {
             let Some(stream) = &mut self.stream else {
                 return Err(not_connected());
             };
-            rest = write_on(stream, rest, stop)?;
-            if rest.is_empty() {
+            let waits = most.saturating_sub(waited).min(MOST_WAITS);
+            let left = write_on(stream, rest, waits, stop)?;
+            if left.is_empty() {
                 break;
             }
+            waited = if left.len() < rest.len() {
+                waits
+            } else {
+                waited.saturating_add(waits)
+            };
+            rest = left;
             self.tell_unread();
+            if waited >= most {
+                return Err(io::Error::from(ErrorKind::TimedOut));
+            }
         }
         if self.place.idle.is_some() {
             self.written = Instant::now(self.rt).ok();
@@ -129,10 +146,8 @@ impl<R: Net<Listener = TcpListener, Stream = TcpStream> + Clock + Eprint> Way<'_
 
     /// Connects anew, and writes all of a piece there, where the neighbour doesn't end that connection at once.
     fn write_anew(&mut self, piece: &[u8]) -> Result<(), LineCause> {
-        let port = self.place.output;
-        named(self.connect(LONGEST_TRY), LineCall::Connect, port)?;
-        named(self.outlasts_a_look(), LineCall::Connect, port)?;
-        named(self.write_whole(piece), LineCall::Write, port)
+        self.connect_lasting()?;
+        named(self.write_whole(piece), LineCall::Write, self.place.output)
     }
 
     /// Gives up a connection that the neighbour has ended.
@@ -162,38 +177,24 @@ impl<R: Net<Listener = TcpListener, Stream = TcpStream> + Clock + Eprint> Way<'_
         if self.patience.tries.is_none()
             && let Some(handed) = self.minute.handed()
         {
-            let handed = match self.untold {
-                Some((_, before)) => before.joined(handed),
-                None => handed,
-            };
-            self.untold = Some((why, handed));
+            self.breaks.note(why, handed, self.course);
         }
         self.minute = LastMinute::new();
-        self.tell_broken(BETWEEN_BREAKS);
+        self.tell_breaks(BETWEEN_BREAKS);
     }
 
-    /// Tells the operator what was handed to connections that broke, where no other break was told within so many seconds.
-    fn tell_broken(&mut self, seconds: u64) {
-        if let Some((why, handed)) = self.untold
-            && self.breaks.may_tell(self.rt, seconds)
-        {
-            self.untold = None;
-            let port = self.place.output;
-            let ago = self.second().saturating_sub(handed.until());
-            let news = News::Broke {
-                port,
-                why,
-                handed,
-                ago,
-            };
-            self.breaks.tell(self.rt, seconds, news);
-        }
+    /// Tells the operator of connections that broke, where no other break was told within so many seconds.
+    fn tell_breaks(&mut self, seconds: u64) {
+        let now = self.second();
+        self.breaks.tell(self.rt, seconds, now);
     }
 
-    /// A frame was handed to the connection that stands.
+    /// A frame was handed to the connection that stands. Where it is a draw, the next break is soon mended.
     fn has_handed(&mut self, frame: &[u8]) {
         let at = self.second();
-        self.minute.note(frame, at);
+        if self.minute.note(frame, &mut self.course, at) {
+            self.pauses = Pauses::new();
+        }
         self.tell_reached();
     }
 
@@ -224,7 +225,7 @@ impl<R: Net<Listener = TcpListener, Stream = TcpStream> + Clock + Eprint> Way<'_
     /// or without an end, and each connection that comes of it begins with the first byte of the piece. The answer is the last
     /// failure where none of them takes all of it, or the run is to end.
     fn deliver(&mut self, piece: &[u8]) -> Result<(), LineCause> {
-        self.tell_broken(BETWEEN_BREAKS);
+        self.tell_breaks(BETWEEN_BREAKS);
         self.look();
         let first = named(self.write_whole(piece), LineCall::Write, self.place.output);
         let Err(mut last) = first else {
@@ -258,18 +259,22 @@ impl<R: Net<Listener = TcpListener, Stream = TcpStream> + Clock + Eprint> Way<'_
         }
     }
 
+    /// Connects anew, where the neighbour doesn't end that connection at once.
+    fn connect_lasting(&mut self) -> Result<(), LineCause> {
+        let port = self.place.output;
+        named(self.connect(LONGEST_TRY), LineCall::Connect, port)?;
+        named(self.outlasts_a_look(), LineCall::Connect, port)
+    }
+
     /// Tries the port once, and tells what comes of it. False where no connection stands then.
     fn tries_once(&mut self) -> bool {
-        match named(
-            self.connect(LONGEST_TRY),
-            LineCall::Connect,
-            self.place.output,
-        ) {
+        match self.connect_lasting() {
             Ok(()) => {
                 self.tell_reached();
                 true
             }
             Err(cause) => {
+                self.stream = None;
                 if goes_on(self.patience.stop).is_ok() {
                     self.tell_away(cause);
                 }
@@ -278,22 +283,32 @@ impl<R: Net<Listener = TcpListener, Stream = TcpStream> + Clock + Eprint> Way<'_
         }
     }
 
-    /// When the sink wants to be asked again where no connection stands: in a second while a break wasn't told yet, else never.
-    fn asked_again(&self) -> Option<u32> {
-        match self.untold {
-            Some(_) => Some(A_SECOND),
-            None => None,
+    /// When the sink wants to be asked again where a connection broke and none stands: soon where the next one begins with the last
+    /// draws, in a second while something wasn't told yet, else never.
+    fn asked_again(&mut self) -> Option<u32> {
+        if self.course.again() > 0 {
+            return Some(self.pauses.next());
         }
+        if self.breaks.has_more() {
+            return Some(A_SECOND);
+        }
+        None
     }
 
-    /// Whether a connection was made since this was last asked. Where none stands, the port is tried once.
-    fn is_renewed(&mut self) -> bool {
+    /// Whether a connection was made since this was last asked, on which the line begins with so many of the last draws. What these
+    /// don't bring of what was handed to those before may be missing. Where none stands, the port is tried once.
+    fn is_renewed(&mut self, again: u32) -> bool {
+        self.course.begins_with(again);
         self.look();
         if self.stream.is_none() && !is_closed(&self.place) {
             self.tries_once();
         }
-        let is_new = self.is_new;
+        let is_new = self.is_new && self.stream.is_some();
         self.is_new = false;
+        if is_new {
+            self.breaks.begin(self.course);
+            self.tell_breaks(BETWEEN_BREAKS);
+        }
         is_new
     }
 
@@ -307,7 +322,7 @@ impl<R: Net<Listener = TcpListener, Stream = TcpStream> + Clock + Eprint> Way<'_
         if !self.has_stood && !self.tries_once() {
             return Some(self.pauses.next());
         }
-        self.tell_broken(BETWEEN_BREAKS);
+        self.tell_breaks(BETWEEN_BREAKS);
         self.look();
         if self.stream.is_none() {
             return self.asked_again();
@@ -330,7 +345,7 @@ impl<R: Net<Listener = TcpListener, Stream = TcpStream> + Clock + Eprint> Way<'_
     /// Ends the bytes of the connection that stands, and waits until the neighbour has read them and ends its side. Where none has stood,
     /// the port is tried once more, so that a neighbour that listens hears the end.
     fn end(&mut self) {
-        self.tell_broken(0);
+        self.tell_breaks(0);
         if !self.has_stood {
             // Where the neighbour isn't there, there is nobody to tell.
             let _ = self.connect(SHORT_TRY);
@@ -395,16 +410,17 @@ fn write_some(stream: &mut TcpStream, piece: &[u8]) -> io::Result<usize>
 }
 
 /// Writes a piece on a connection. Where a write takes a part, the next goes on behind it. Answers what was not taken: nothing, but
-/// where the writes of a minute have waited in turn and no byte was.
+/// where so many writes in turn have waited and no byte was.
 fn write_on<'a>(
     stream: &mut TcpStream,
     piece: &'a [u8],
+    most: u32,
     stop: Option<&Stop>,
 ) -> io::Result<&'a [u8]> {
     let mut rest = piece;
     let mut waits = 0u32;
     for _ in 0..u64::MAX {
-        if rest.is_empty() || waits >= MOST_WAITS {
+        if rest.is_empty() || waits >= most {
             break;
         }
         goes_on(stop)?;
@@ -425,6 +441,11 @@ fn write_on<'a>(
         }
     }
     Ok(rest)
+}
+
+/// How many writes in turn may wait in vain until a connection is broken, where the row says that.
+fn most_waits(idle: Option<u16>) -> u32 {
+    idle.map_or(u32::MAX, |seconds| u32::from(seconds) * WAITS_A_SECOND)
 }
 
 /// A third of so many seconds, in milliseconds.
@@ -480,8 +501,8 @@ impl<'a, R: Net<Listener = TcpListener, Stream = TcpStream> + Clock + Eprint> Tc
             teller: Teller::new(circuit),
             begun: Instant::now(rt).ok(),
             minute: LastMinute::new(),
-            untold: None,
-            breaks: Teller::new(circuit),
+            course: Course::new(),
+            breaks: Breaks::new(circuit, at.output),
         };
         // Where the neighbour isn't there yet, it is tried again later.
         let _ = way.connect(SHORT_TRY);
@@ -527,8 +548,8 @@ impl<R: Net<Listener = TcpListener, Stream = TcpStream> + Clock + Eprint> Sink f
     }
 
     /// Whether a connection was made since this was last asked. Where none stands, the port is tried once.
-    fn ready(&mut self, _again: u32) -> bool {
-        self.way.is_renewed()
+    fn ready(&mut self, again: u32) -> bool {
+        self.way.is_renewed(again)
     }
 
     /// Tries the port until a connection has stood, and keeps a connection alive that stands.

@@ -35,6 +35,8 @@ pub(crate) enum Setting {
     MostQuestions,
     /// Whether a socket that has an address of its own gets its port only when it calls.
     PortAtCall,
+    /// For how many milliseconds bytes may lie there that the neighbour's machine doesn't take.
+    Untaken,
 }
 
 /// The answer of a call, or why it failed.
@@ -72,17 +74,25 @@ pub(crate) fn set(stream: &TcpStream, setting: Setting, number: i32) -> io::Resu
             Setting::PortAtCall => {
                 system::setsockopt(at, system::IPPROTO_IP, PORT_AT_CALL, &value, bytes)
             }
+            Setting::Untaken => {
+                system::setsockopt(at, tcp, system::TCP_USER_TIMEOUT, &value, bytes)
+            }
         }
     })
 }
 
 /// Has the system hold few bytes that the neighbour hasn't taken, so that a neighbour that reads nothing is seen soon, and ask a quiet
-/// neighbour's machine whether it is there: each third of `idle` seconds, or of a minute.
+/// neighbour's machine whether it is there: each third of `idle` seconds, or of a minute. Where the row gives `idle`, a machine that
+/// takes no byte for so long breaks the connection.
 pub(crate) fn bound(stream: &TcpStream, idle: Option<u16>) -> io::Result<()> {
     set(stream, Setting::SendBuffer, SEND_BUFFER)?;
     let third = i32::from((idle.unwrap_or(QUIET) / 3).max(1));
     set(stream, Setting::FirstQuestion, third)?;
     set(stream, Setting::NextQuestion, third)?;
     set(stream, Setting::MostQuestions, MOST_QUESTIONS)?;
-    set(stream, Setting::KeepAlive, 1)
+    set(stream, Setting::KeepAlive, 1)?;
+    match idle {
+        Some(seconds) => set(stream, Setting::Untaken, i32::from(seconds) * 1_000),
+        None => Ok(()),
+    }
 }

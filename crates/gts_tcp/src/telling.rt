@@ -1,5 +1,5 @@
 use crate::LineCause;
-use crate::handed::Handed;
+use crate::handed::{Handed, Missing};
 use std::net::IpAddr;
 use std::time::{Clock, Instant};
 use std::{fmt, io};
@@ -38,10 +38,17 @@ pub(crate) enum News {
         port: u16,
         /// Why.
         why: io::Error,
-        /// What was handed to it in the minute up to its last frame, which may be missing there.
+        /// What was handed to it in the minute up to its last frame.
         handed: Handed,
         /// How many seconds ago that was.
         ago: u64,
+    },
+    /// The line goes on behind connections that broke.
+    Begun {
+        /// The neighbour's port.
+        port: u16,
+        /// What may be missing there.
+        missing: Missing,
     },
 }
 
@@ -58,8 +65,15 @@ impl fmt::Display for News {
                 ago,
             } => write!(
                 f,
-                "output {port}: broke: {why}; may be missing of the minute up to {ago} s ago: {handed}"
+                "output {port}: broke: {why}; handed in the minute up to {ago} s ago: {handed}"
             ),
+            News::Begun { port, missing } => match missing.again() {
+                0 => write!(f, "output {port}: nothing comes again; {missing}"),
+                again => write!(
+                    f,
+                    "output {port}: begun anew with the last {again}; {missing}"
+                ),
+            },
         }
     }
 }
@@ -106,7 +120,7 @@ impl Teller {
     }
 
     /// Tells this. Where it can't be told, the line goes on all the same.
-    fn say<R: Eprint>(&self, rt: &R, news: News) {
+    pub(crate) fn say<R: Eprint>(&self, rt: &R, news: News) {
         let circuit = self.circuit;
         let _ = eprintln!(rt; "gts_switch: circuit {circuit}: {news}");
     }
